@@ -684,6 +684,23 @@ class Running(Case):
         self.assertFalse((out / "in" / "dark.background").exists())
         self.assertEqual(check_site.main([str(out), "--quiet"]), 0)
 
+    def test_what_stays_of_a_puzzle_that_is_not_unique_is_told(self):
+        """A kept row tells it, too; the puzzle's own certificate, which is read, is none of that."""
+        out, stays = os.path.realpath(self.folder) + "/out", "it stays, though the puzzle is not unique\n"
+        self.put("set.xml", "<puzzleset>" + webpbn(UNIQUE) * 2 + "</puzzleset>")
+        self.put("one.ppm", p3(UNIQUE))
+        words = ["site", "--allow", "9", "--jsonl", "rows", "--resume"]
+        self.assertEqual(self.run_audit(*words, "--certify", "out", "--ppm", "out", status=0).stderr, "")
+        self.put("one.ppm", p3(AMBIGUOUS))
+        self.put("set.xml", "<puzzleset>" + webpbn(UNIQUE) + webpbn(AMBIGUOUS) + "</puzzleset>")
+        for _ in range(2):
+            said = self.run_audit(*words, "--certify", "out", "--ppm", "out", status=1).stderr
+            self.assertEqual(said, f"nonobench-audit: {out}/one.cert and 1 more: {stays}")
+        self.assertEqual(self.run_audit(*words, "--ppm", "out", status=1).stderr, f"nonobench-audit: {out}/one.ppm and 1 more: {stays}")
+        for name in ("one.cert", "set.2.cert"):
+            self.put(name, CERT)
+        self.assertEqual(self.run_audit(*words, "--certify", "site", status=1).stderr, "")
+
     def test_kept_rows_are_of_the_pictures_that_lie_there(self):
         self.put("one.ppm", p3(UNIQUE))
         self.put("two.ppm", p3(UNIQUE))
@@ -1251,6 +1268,12 @@ class Running(Case):
         names = [found.name for found in finding.find([".", "../b.ppm", str(self.site)])]
         self.assertEqual(names, [*(f"{self.site}/{name.partition('/')[2]}" for name in wanted), "a/c.ppm", "b.ppm", "../b.ppm"])
         self.assertEqual(names, sorted(names, key=finding.order_of))
+        # So does what leads farther out, which is in no folder that leads out less far.
+        self.put("../far.ppm", p3(UNIQUE))
+        self.assertIsNone(finding.unreached(["..", "../../far.ppm"]))
+        names = [found.name for found in finding.find(["../a", "../../far.ppm", "..", "../.././far.ppm"])]
+        self.assertEqual(names, [*(f"../{name.partition('/')[2]}" for name in wanted), "../../far.ppm"])
+        self.assertEqual(names, sorted(names, key=finding.order_of))
         # A folder that cannot be listed has its name as PATH.
         for path in (".", "none/sub", "/none", "/none/sub"):
             prefix = "" if path == "." else path + "/"
@@ -1269,12 +1292,6 @@ class Running(Case):
         self.put("hard.ppm", p3_of_letters(chequered(60, 4)))
         self.put("one.ppm", p3(UNIQUE))
         rows = self.rows("site", "--seconds", "2", status=1)
-        # So does what leads farther out, which is in no folder that leads out less far.
-        self.put("../far.ppm", p3(UNIQUE))
-        self.assertIsNone(finding.unreached(["..", "../../far.ppm"]))
-        names = [found.name for found in finding.find(["../a", "../../far.ppm", "..", "../.././far.ppm"])]
-        self.assertEqual(names, [*(f"../{name.partition('/')[2]}" for name in wanted), "../../far.ppm"])
-        self.assertEqual(names, sorted(names, key=finding.order_of))
         hard = rows["site/hard.ppm"]
         self.assertEqual((hard["verdict"], hard["rows"], hard["limit"]), ("undecided", 60, "2 s"))
         self.assertGreaterEqual(hard["seconds"], 2)
@@ -1309,23 +1326,6 @@ class Again(Case):
         self.assertEqual(again["site/0/000.ppm"]["verdict"], "unique")
         self.assertTrue((self.folder / "certs" / "2" / "002.cert").exists())
 
-    def test_rows_in_order_keep_their_file(self):
-        """Its mode, and the link to it."""
-        self.put("m.ppm", p3(UNIQUE))
-        self.run_audit("site", "--jsonl", "kept", "--html", "report", status=0)
-        for name in ("kept", "report"):
-            (self.folder / name).chmod(0o600)
-        (self.folder / "rows").symlink_to("kept")
-        self.put("a.ppm", p3(UNIQUE))
-        self.run_audit("site", "--jsonl", "rows", "--html", "report", "--resume", status=0)
-        self.assertTrue((self.folder / "rows").is_symlink())
-        self.assertEqual(list(self.read("kept")), ["site/a.ppm", "site/m.ppm"])
-        for name in ("kept", "report"):
-            self.assertEqual((self.folder / name).stat().st_mode & 0o777, 0o600)
-
-    def test_resume_minds_what_lies_beside(self):
-        refused = {"accepted": False, "why": "certificate NotDone at line 2"}
-        self.put("one.ppm", p3(UNIQUE))
     def test_rows_that_are_left_out_are_told(self):
         """Those of a file that has fewer puzzles now are none."""
         self.put("one.ppm", p3(UNIQUE))
@@ -1366,6 +1366,23 @@ class Again(Case):
             self.run_audit(*words, "--resume", status=0)
             self.assertEqual(place.read_bytes(), before)
 
+    def test_rows_in_order_keep_their_file(self):
+        """Its mode, and the link to it."""
+        self.put("m.ppm", p3(UNIQUE))
+        self.run_audit("site", "--jsonl", "kept", "--html", "report", status=0)
+        for name in ("kept", "report"):
+            (self.folder / name).chmod(0o600)
+        (self.folder / "rows").symlink_to("kept")
+        self.put("a.ppm", p3(UNIQUE))
+        self.run_audit("site", "--jsonl", "rows", "--html", "report", "--resume", status=0)
+        self.assertTrue((self.folder / "rows").is_symlink())
+        self.assertEqual(list(self.read("kept")), ["site/a.ppm", "site/m.ppm"])
+        for name in ("kept", "report"):
+            self.assertEqual((self.folder / name).stat().st_mode & 0o777, 0o600)
+
+    def test_resume_minds_what_lies_beside(self):
+        refused = {"accepted": False, "why": "certificate NotDone at line 2"}
+        self.put("one.ppm", p3(UNIQUE))
         self.assertNotIn("certificate", self.rows("site", status=0)["site/one.ppm"])
         for name, text in (("one.proof", LEMMAS), ("one.cert", CERT)):
             self.put(name, text)
@@ -1469,11 +1486,15 @@ class Again(Case):
             "the second alone": [lines[0], *lines[2:]],
             "the second of the run before": [lines[0], new[0], *lines[2:]],
         }
+        outputs = ["--jsonl", "merged", "--csv", "merged.csv", "--html", "merged.html"]
+        self.run_audit("merge", "whole", *outputs, status=0)
+        before = [(self.folder / name).read_bytes() for name in outputs[1::2]]
         for name, rows in cases.items():
             (self.folder / "part").write_text("".join(rows))
             with self.subTest(name):
                 done = self.run_audit("merge", "part", *outputs, status=3)
                 self.assertEqual(done.stderr, "nonobench-audit: site/set.xml: rows of some of its puzzles are missing, or of another run\n")
+                self.assertEqual([(self.folder / name).read_bytes() for name in outputs[1::2]], before)
         (self.folder / "part").write_text(lines[1].replace("site/set", "\\u001b[2Jset"))
         self.assertIn("nonobench-audit: \\x1b[2Jset.xml: rows of some", self.run_audit("merge", "part", status=3).stderr)
         self.assertIn("of another run", self.run_audit("merge", "whole", "one", "--jsonl", "merged", status=3).stderr)
@@ -1533,9 +1554,6 @@ class Again(Case):
         self.assertEqual([row["verdict"] for row in first.values()], ["unique"] * 3 + ["ambiguous"])
         self.assertEqual(in_process(self.folder, *words)[0], 1)
         self.assertEqual(place.read_bytes(), whole)
-        outputs = ["--jsonl", "merged", "--csv", "merged.csv", "--html", "merged.html"]
-        self.run_audit("merge", "whole", *outputs, status=0)
-        before = [(self.folder / name).read_bytes() for name in outputs[1::2]]
         one, two, near, given = (f"site/{name}.ppm" for name in ("one", "two", "near", "given"))
         forged = {**{name: value for name, value in first[two].items() if name != "other"}, "verdict": "unique", "fit": True}
         every = "nonocert 2\n" + "".join(f"given {cell}\n" for cell in ("1 1", "1 2", "2 1", "2 2")) + "done\n"

@@ -73,11 +73,13 @@ def numbered_name(name: str, number: int) -> str:
     return name if number == 1 else f"{name}.{number}"
 
 
-def write(name: str, text: str) -> str:
-    """Writes a certificate. Answers a note why it could not be written, and then nothing is left of it; empty where it was.
+def written(to: Optional[str], published: Optional[str], number: int) -> list[str]:
+    """Where the certificate and the picture of a puzzle are, those that are wanted."""
+    return [f"{numbered_name(name, number)}.{ending}" for name, ending in ((to, "cert"), (published, "ppm")) if name is not None]
 
-    One that is there already stays until the new one is whole.
-    """
+
+def write(name: str, text: str) -> str:
+    """Writes a certificate, in the place of an older one once it is whole. Answers a note why it was not written, or nothing."""
     return _put("certificate", f"{name}.cert", text.encode("ascii"))
 
 

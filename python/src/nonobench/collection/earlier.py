@@ -8,7 +8,7 @@ import re
 from pathlib import Path
 from typing import BinaryIO, Optional
 
-from .certificates import numbered_name
+from .certificates import numbered_name, written
 from .outputs import Failure, lines_of
 from .reading_rows import checked_row
 from .rows import Row, row_of, text_of
@@ -80,11 +80,8 @@ def read_row(name: str, number: int, line: bytes) -> Row:
 
 
 def content_before(rows: list[tuple[int, Row]], made: str, limit: str, to: Optional[str], published: Optional[str]) -> str:
-    """What the content of a file was when its rows were made; empty where they are to be made again.
-
-    Where a run was stopped within a file of several puzzles, some of its rows may be newer than the others.
-    """
-    if len({row.get("content") for _, row in rows}) > 1:
+    """What the content of a file was when its rows were made; empty where they are to be made again."""
+    if len({row.get("content") for _, row in rows}) > 1:  # some are newer: a run was stopped within the file
         return ""
     for _, row in rows:
         if row.get("made") != made or "note" in row or "missing" in row:
@@ -93,10 +90,7 @@ def content_before(rows: list[tuple[int, Row]], made: str, limit: str, to: Optio
             return ""
         if row.get("error", "").startswith("out of memory"):
             return ""
-        number = row.get("puzzle", 1)
-        is_unique = row["verdict"] == "unique"
-        wanted = [(name, ending) for name, ending in ((to, "cert"), (published, "ppm")) if name is not None and is_unique]
-        if not all(os.path.exists(f"{numbered_name(name, number)}.{ending}") for name, ending in wanted):
+        if row["verdict"] == "unique" and not all(map(os.path.exists, written(to, published, row.get("puzzle", 1)))):
             return ""
     return rows[0][1].get("content", "") if rows else ""
 

@@ -334,9 +334,7 @@ def _found(folder: Folder, name: str) -> Found:
 
 
 def _certificates(folder: Folder, name: str, stem: str) -> list[Named]:
-    """The certificates of each puzzle of a file: those after its whole name, else those after the stem. Beside puzzles both, where no other
-    has the stem.
-    """
+    """The certificates of each puzzle of a file: after its whole name, else after the stem; beside puzzles both, if it is alone."""
     found: list[Named] = []
     is_both = not folder.is_held_apart and _is_alone(folder, name)
     for way in (name, stem):

@@ -52,9 +52,7 @@ def locked(name: str, file: Union[BinaryIO, int], is_shared: bool = False) -> No
 
 
 def kept_folder(name: str, is_shared: bool) -> int:
-    """Makes a folder where there is none, without a link in its path, and keeps other runs from writing to it, as long as the handle is
-    open.
-    """
+    """Makes a folder where there is none, through no link, and keeps other runs from it as long as the handle is open."""
     with telling(name), opened(name) as folder:
         place = f"/proc/self/fd/{folder}"
         if not os.access(place, os.W_OK | os.X_OK):

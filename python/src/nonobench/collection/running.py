@@ -63,7 +63,8 @@ class Kept(NamedTuple):
     """Rows of an earlier run, and what is to be done about the file they are of."""
 
     rows: tuple[tuple[int, str], ...]  # where each is, and its verdict
-    to: Optional[str]
+    to: Optional[str] = None
+    published: Optional[str] = None
     beside: tuple[tuple[int, str], ...] = ()  # certificates, each with the number of its puzzle
 
 
@@ -125,10 +126,10 @@ class Run:
         self._beside = 0  # how many certificates lie beside the puzzles
         self._unread: list[str] = []  # those of an older name that are not read
         self._lost: list[str] = []  # those of puzzles that their files do not have
-        self._is_elsewhere = False  # whether other shares have files
         self._old: list[str] = []  # what was written of puzzles that are not unique
         self._left = 0  # rows of an earlier run that are left out
         self._unlisted: set[str] = set()  # folders that cannot be listed
+        self._is_elsewhere = False  # whether other shares have files
 
     def audit(self) -> int:
         """Audits a collection."""
@@ -161,6 +162,7 @@ class Run:
                 for number, (place, line) in enumerate(lines_of(files[-1]), 1):
                     row = read_row(path, number, line)
                     rows[order_of(row["file"]), row.get("puzzle", 1)] = (at, place)
+        self._join(files, rows, False)  # where rows are missing, what is there stays
         self._open()
         return self._guarded(lambda: self._join(files, rows, True))
 
@@ -168,7 +170,6 @@ class Run:
         before: Row = {}
         for key in sorted(rows):
             at, place = rows[key]
-        self._join(files, rows, False)  # where rows are missing, what is there stays
             files[at].seek(place)
             row = row_of(files[at].readline())
             if not _follows(before, row):
@@ -220,9 +221,9 @@ class Run:
         places = Places(options.certificates, options.givens, options.is_untrusted, is_written)
         read = folders_of([*options.paths, *([] if options.givens is None else [options.givens])])
         for found in find(options.paths, places):
-            if not is_in_share(found.name, options.shard):
             if found.why:
                 self._unlisted.add(found.name)
+            if not is_in_share(found.name, options.shard):
                 self._is_elsewhere = True
                 continue
             number += 1
@@ -232,7 +233,7 @@ class Run:
             rows = [] if self._earlier is None else self._earlier.rows(found.name)
             before = content_before(rows, settings.made, settings.limit, to, published)
             rows = rows if before else []
-            self._kept[number] = Kept(tuple((place, row["verdict"]) for place, row in rows), to, found.beside)
+            self._kept[number] = Kept(tuple((place, row["verdict"]) for place, row in rows), to, published, found.beside)
             beside = found.beside, found.givens, found.background
             yield Task(number, found.name, found.path, *beside, to, before, 1, FULL, published, to_check(rows, to, published), why=found.why)
 
@@ -270,12 +271,12 @@ class Run:
         if is_none:
             failures.append(Failure(f"no puzzles in {', '.join(options.paths)}"))
         failures += [Failure(f"{folder}: {CHANGED}") for folder in (changed() if is_whole else ())]
-        failures += self._close(is_whole and not is_none)
         if is_whole and not is_none and self._lines is not None and self._earlier is not None:
             unlisted, self._left = self._earlier.left(self._unlisted)
             if unlisted:
                 self._lines.has_places = False
                 failures.append(Failure(f"{options.jsonl}: {unlisted} {UNLISTED}"))
+        failures += self._close(is_whole and not is_none)
         self._progress.close()
         for words in dict.fromkeys(map(str, failures)):
             print(f"nonobench-audit: {printable(words)}", file=sys.stderr)
@@ -354,20 +355,24 @@ class Run:
 
     def _deliver_answer(self, answer: Answer) -> None:
         self._size -= len(answer.text)
-        beside = self._kept[answer.number].beside
+        kept = self._kept[answer.number]
         if answer.verdict == "same":
             assert self._earlier is not None
-            for place, _ in self._kept[answer.number].rows:
-                self._deliver(text_of(self._earlier.row(place)), place, beside)
+            for place, _ in kept.rows:
+                self._deliver(text_of(self._earlier.row(place)), place, kept)
         elif answer.verdict != "none":
-            self._deliver(self._text_of(answer), answer.place, beside)
+            self._deliver(self._text_of(answer), answer.place, kept)
 
-    def _deliver(self, text: str, place: Optional[int] = None, beside: tuple[tuple[int, str], ...] = ()) -> None:
+    def _deliver(self, text: str, place: Optional[int] = None, kept: Kept = Kept(())) -> None:
         """Puts a row into what is written. One that has a place in the file of rows stays there."""
         row = row_of(text)
         self._tally.put(row)
+        number = row.get("puzzle", 1)
         if not row.get("more") and row["verdict"] != "error":  # the last one of its file
-            self._lost += [path for number, path in beside if number > row.get("puzzle", 1)]
+            self._lost += [path for of, path in kept.beside if of > number]
+        if row["verdict"] != "unique":
+            old = filter(os.path.lexists, certificates.written(kept.to, kept.published, number))
+            self._old += [path for path in old if path not in (os.path.realpath(beside) for _, beside in kept.beside)][:1]
         for sink in self._sinks:
             if sink is self._lines and place is not None:
                 self._lines.keep(place)

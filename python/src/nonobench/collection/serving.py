@@ -358,9 +358,7 @@ class Files(NamedTuple):
 
 
 def files_of(task: Task, settings: Settings) -> Files:
-    """The bytes of a task's files. Raises Unreadable, which names what lies beside the file where that is not read. All together
-    they are no more than the memory that judges them.
-    """
+    """The bytes of a task's files, all no more than the memory that judges them. Unreadable names what beside it is not read."""
     most = min(settings.memory, MOST_SENT) if settings.is_inline else settings.memory
     room = most << 20
 
