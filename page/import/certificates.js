@@ -1,6 +1,7 @@
 // A certificate that comes in: checked against the picture at hand by the proved checker.
 
 import { say } from '../base/elements.js';
+import { on } from '../base/events.js';
 import { columnOf, docOf, rowOf, sameDoc } from '../document/document.js';
 import { plainOf } from '../engine/assessing.js';
 import { bench } from '../engine/bench.js';
@@ -37,7 +38,7 @@ async function checkedCertificate(certificate, doc, engine) {
   }
 }
 
-/** Checks a certificate against the picture at hand, until the user stops it, and tells what came of it, unless another one is at hand by then. */
+/** Checks a certificate against the picture at hand, until the user stops it, and tells what came of it for as long as that is at hand. */
 export async function takeCertificate(certificate, name) {
   if (!bench.state) {
     say(phrase('import.certificateOpenPictureFirst', { name }), 'alarm');
@@ -48,6 +49,11 @@ export async function takeCertificate(certificate, name) {
   const progress = new Progress(phrase('import.checking', { name }));
   const { proves, text } = await checkedCertificate(certificate, doc, progress.held(startEngine())).finally(() => progress.end());
   if (!bench.state || !sameDoc(doc, bench.state)) return false;
-  say(`${proves ? '✓ ' : ''}${phrase('import.certificateSays', { name, text })}`, proves ? '' : 'alarm');
+  const unsay = say(`${proves ? '✓ ' : ''}${phrase('import.certificateSays', { name, text })}`, proves ? '' : 'alarm');
+  const end = on('shown', (state) => {
+    if (sameDoc(doc, state)) return;
+    end();
+    unsay();
+  });
   return proves;
 }

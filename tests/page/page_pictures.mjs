@@ -390,6 +390,7 @@ export async function checkOfCertificate({ browser, url, folder }) {
     await check(2);
     await page.run(() => kept[1].go());
     assert.equal(await told(), '✓ “a.cert”: It proves that this picture is the only solution.');
+    assert.equal(await page.run(() => bench.stroke(['paint 1 1 .']).then(() => document.getElementById('said').textContent)), '', 'it is another picture');
     await check(3);
     await trial.open(ppmOf(['a.', '.a']), 'two');
     await page.run(() => kept[2].go());
