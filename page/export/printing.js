@@ -16,7 +16,7 @@ import { addAction } from '../view/actions.js';
 import { openDialog } from '../view/dialogs.js';
 import { nearText, pairText } from '../view/dress.js';
 import { gradeAtHand } from '../view/grading.js';
-import { Progress } from '../view/progress.js';
+import { Progress, eachInTurn } from '../view/progress.js';
 import { asSeen } from '../view/tools.js';
 import { SHEET_TEXTS, entryOf } from './entries.js';
 import { GRIDS, PAPERS, isLarge, makersOf, partsOf } from './sheets.js';
@@ -42,14 +42,11 @@ export const puzzleOf = ({ state, name }) => ({ doc: docOf(state), clues: state.
 const shownFirst = (near) => (near && chosen.show === 'colours' ? 'letters' : chosen.show);
 const makersFor = (puzzles, options) => makersOf(puzzles.map((one) => entryOf(one, options)), { ...options, texts: SHEET_TEXTS });
 
-/** What comes of each sheet of puzzles, one after the other; null once `goesOn`, which hears how far it is, says no. */
-export async function sheetsInTurn(puzzles, options, goesOn, take = (sheet) => sheet) {
-  const [makers, sheets] = [makersFor(puzzles, options), []];
-  for (const [at, makeSheet] of makers.entries()) {
-    if (!(await goesOn(phrase('import.ofAll', { count: at, all: makers.length })))) return null;
-    sheets.push(take(makeSheet()));
-  }
-  return sheets;
+/** What comes of each sheet of puzzles, one after the other; null where `progress` does not go on. */
+export async function sheetsInTurn(puzzles, options, progress, take = (sheet) => sheet) {
+  const makers = makersFor(puzzles, options);
+  const sheets = await eachInTurn(makers, progress, (makeSheet) => take(makeSheet()));
+  return sheets.length === makers.length ? sheets : null;
 }
 
 // ---- the browser's print
@@ -156,8 +153,8 @@ async function foreseen(own, cards) {
   return [own, ...records.filter(({ doc }) => doc).map((one) => ({ ...one, clues: runsOf(one.doc) }))].sort(byName);
 }
 
-// The puzzles of some cards, opened; null, told, where one is damaged, does not open, or has colours that cannot be told apart.
-async function openedOf(cards, { show }) {
+// The puzzles of some cards, opened; null where that is stopped, and, told, where one is damaged, does not open, or has colours that cannot be told apart.
+async function openedOf(cards, { show }, progress) {
   const records = [];
   for (const { id, name, grade } of cards) {
     const record = await keep.keeper.record(id);
@@ -166,7 +163,7 @@ async function openedOf(cards, { show }) {
   }
   const alike = records.find(({ doc }) => show === 'colours' && nearText(doc));
   if (alike) return void say(phrase('export.printLettersSigns', { name: alike.name, near: nearText(alike.doc) }), 'alarm');
-  return withClues(records);
+  return withClues(records, undefined, progress);
 }
 
 const printPuzzle = () => asSeen(async (seen) => {
@@ -186,7 +183,7 @@ const printPuzzle = () => asSeen(async (seen) => {
       await new Promise((go) => setTimeout(go));
       return ownTurn === turn;
     };
-    const sheets = await sheetsInTurn(puzzles, options, goesOn, ({ cell }) => ({ cell }));
+    const sheets = await sheetsInTurn(puzzles, options, { goesOn }, ({ cell }) => ({ cell }));
     if (!sheets) return;
     notes.replaceChildren(...notesOn(puzzles, sheets, options));
     svgName.textContent = isZip(sheets) ? phrase('export.saveSvgs') : phrase('export.saveSvg');
@@ -198,10 +195,9 @@ const printPuzzle = () => asSeen(async (seen) => {
   if (!way) return;
   const options = readFields(fields);
   Object.assign(chosen, options, (bench.term !== seen.term || options.show === shownFirst(near)) && { show: chosen.show }); // what was only proposed is not chosen
-  const opened = await openedOf(others.chosen(), options);
-  if (!opened) return;
   const progress = new Progress(phrase('export.print'));
-  const sheets = await sheetsInTurn([titled(), ...opened].sort(byName), options, (text) => progress.goesOn(text));
+  const opened = await openedOf(others.chosen(), options, progress);
+  const sheets = opened && (await sheetsInTurn([titled(), ...opened].sort(byName), options, progress));
   progress.end();
   if (!sheets) return;
   if (way === 'svg') return saveSvg(own.name, sheets, isZip(sheets));

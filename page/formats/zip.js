@@ -31,20 +31,32 @@ function packed(...fields) {
 const two = (value) => [value, 2];
 const four = (value) => [value, 4];
 
-/** A zip of files, each `{name, bytes}`. */
-export function writeZip(files) {
-  const [pieces, central] = [[], []];
-  let at = 0;
-  for (const { name, bytes } of files) {
+/** A zip that takes files one after the other, each `{name, bytes}`; `bytes` is all of it. */
+export class ZipWriter {
+  pieces = [];
+  central = [];
+  at = 0;
+
+  add({ name, bytes }) {
     const title = new TextEncoder().encode(name);
     const fields = [two(20), two(UTF8), two(0), two(0), two(DATE), four(crcOf(bytes)), four(bytes.length), four(bytes.length), two(title.length), two(0)];
-    central.push(joined([packed(four(CENTRAL), two(20), ...fields, two(0), two(0), two(0), four(0), four(at)), title]));
+    this.central.push(joined([packed(four(CENTRAL), two(20), ...fields, two(0), two(0), two(0), four(0), four(this.at)), title]));
     const piece = joined([packed(four(LOCAL), ...fields), title, bytes]);
-    pieces.push(piece);
-    at += piece.length;
+    this.pieces.push(piece);
+    this.at += piece.length;
   }
-  const directory = joined(central);
-  return joined([...pieces, directory, packed(four(END), two(0), two(0), two(files.length), two(files.length), four(directory.length), four(at), two(0))]);
+
+  get bytes() {
+    const [directory, count] = [joined(this.central), two(this.pieces.length)];
+    return joined([...this.pieces, directory, packed(four(END), two(0), two(0), count, count, four(directory.length), four(this.at), two(0))]);
+  }
+}
+
+/** A zip of files, each `{name, bytes}`. */
+export function writeZip(files) {
+  const zip = new ZipWriter();
+  for (const file of files) zip.add(file);
+  return zip.bytes;
 }
 
 const damaged = () => new FileFault(phrase('formats.archiveDamaged'));

@@ -3,29 +3,32 @@
 import { say } from '../base/elements.js';
 import { cleanName, freeName } from '../base/words.js';
 import { webpbnText } from '../formats/webpbn.js';
-import { writeZip, zipEntries } from '../formats/zip.js';
+import { ZipWriter, zipEntries } from '../formats/zip.js';
 import { keep } from '../library/keep.js';
 import { faultText, withClues } from '../library/open.js';
 import { recordOfDoc } from '../library/records.js';
 import { SAVE_TYPES, download } from '../library/saving.js';
 import { phrase } from '../texts/phrase.js';
 import { confirmDialog } from '../view/dialogs.js';
-import { Progress } from '../view/progress.js';
+import { Progress, UNSEEN } from '../view/progress.js';
 import { asSeen } from '../view/tools.js';
 import { grouped, puzzlesIn } from './beside.js';
 
 const MANY = 200; // files: more are asked for first
 
-/** A zip of records, each as an XML file, and of what else goes with them. Null, told, where a record does not open. */
-export async function archiveOf(records, others = [], start = undefined) {
-  const opened = await withClues(records, start);
-  const taken = new Map();
-  return opened && writeZip([...others, ...opened.map(({ name, doc, clues }) => ({ name: `${freeName(cleanName(name), taken)}.xml`, bytes: new TextEncoder().encode(webpbnText(doc, clues)) }))]);
+/** A zip of records, each as an XML file, and of what else goes with them. Null where a record does not open, which is told, or where it is stopped. */
+export async function archiveOf(records, others = [], start = undefined, progress = UNSEEN) {
+  const [zip, taken] = [new ZipWriter(), new Map()];
+  for (const other of others) zip.add(other);
+  const add = ({ name, doc, clues }) => zip.add({ name: `${freeName(cleanName(name), taken)}.xml`, bytes: new TextEncoder().encode(webpbnText(doc, clues)) });
+  return (await withClues(records, start, progress, add)) && zip.bytes;
 }
 
 /** Hands records to the user as an archive under a name, and says a text of it. */
 export async function saveArchive(records, { file, text, kind = '', others = [] }) {
-  const bytes = await archiveOf(records, others);
+  const progress = new Progress(phrase('import.saveAllZip'));
+  const bytes = await archiveOf(records, others, undefined, progress);
+  progress.end();
   if (!bytes) return;
   download(bytes, file, SAVE_TYPES.zip.type);
   say(text, kind, null, true);
@@ -67,7 +70,7 @@ const filesIn = (bytes) => zipEntries(bytes).filter(({ name }) => !name.endsWith
  * The documents of an archive as `{ docs: [{ name, doc }], unread: [name], why }`, where `why` is what is wrong with the first unread.
  * `progress` hears how far it is, and answers whether to go on.
  */
-export async function readArchive(bytes, progress = { goesOn: async (text) => true, held: (engine) => engine }) {
+export async function readArchive(bytes, progress = UNSEEN) {
   const [docs, unread] = [[], new Set()];
   let why = '';
   for await (const { name, file, doc, fault } of puzzlesIn(foldersOf(filesIn(bytes)).flatMap((files) => grouped(files)), progress)) {

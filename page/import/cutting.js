@@ -5,7 +5,7 @@ import { clamp } from '../base/words.js';
 import { MOST_CELLS } from '../document/limits.js';
 import { phrase } from '../texts/phrase.js';
 import { openDialog } from '../view/dialogs.js';
-import { Progress } from '../view/progress.js';
+import { Progress, eachInTurn } from '../view/progress.js';
 import { MOST_AT_ONCE } from './beside.js';
 import { docByItself, docProposed } from './proposing.js';
 import { Row } from './rows.js';
@@ -61,12 +61,9 @@ const docOfSprite = (sprite) => ({ ...((sprite.width <= MOST_CELLS && sprite.hei
 
 /** The rows of sprites, one after the other, up to where the user stops it or a table has no more. */
 export async function rowsOfSprites(sprites, name, progress) {
-  const rows = [];
-  for (const [at, sprite] of sprites.slice(0, MOST_AT_ONCE).entries()) {
-    if (!(await progress.goesOn(phrase('import.ofAll', { count: at, all: sprites.length })))) return rows;
-    rows.push(new Row(`${name} ${at + 1}`, docOfSprite(sprite)));
-  }
-  return sprites.length > rows.length ? [...rows, new Row(name, null, phrase('import.othersLeftOut', { most: MOST_AT_ONCE }))] : rows;
+  const taken = sprites.slice(0, MOST_AT_ONCE);
+  const rows = await eachInTurn(taken, progress, (sprite, at) => new Row(`${name} ${at + 1}`, docOfSprite(sprite)));
+  return sprites.length > taken.length && rows.length === taken.length ? [...rows, new Row(name, null, phrase('import.othersLeftOut', { most: MOST_AT_ONCE }))] : rows;
 }
 
 /** Lets the user cut a sheet, given as an image and as a canvas, and shows its puzzles in a table. */

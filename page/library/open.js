@@ -9,6 +9,7 @@ import { startEngine } from '../engine/client.js';
 import { openedIn } from '../engine/opening.js';
 import { phrase } from '../texts/phrase.js';
 import { confirmDialog } from '../view/dialogs.js';
+import { UNSEEN, eachInTurn } from '../view/progress.js';
 import { keep } from './keep.js';
 import { saving, showFileName } from './saving.js';
 
@@ -50,22 +51,23 @@ async function openNow(doc, { name, isSaved = true, id = null, strokes = undefin
 }
 
 /**
- * Puzzles that are not open, each `{ doc, name, .. }`, as an engine has them: with the document that it reports, and its `clues`. One
- * worker opens them, one after the other. Null, told, where one does not open: then nothing may leave the page.
+ * What `take` makes of puzzles that are not open, each `{ doc, name, .. }`, as an engine has them: with the document that it reports,
+ * and its `clues`. One worker opens them, one after the other. Null, told, where one does not open, or where it is stopped: then nothing
+ * may leave the page.
  */
-export async function withClues(puzzles, start = startEngine) {
+export async function withClues(puzzles, start = startEngine, progress = UNSEEN, take = (puzzle) => puzzle) {
   if (!puzzles.length) return [];
-  const [engine, opened] = [start(), []];
-  say(`${phrase('start.pictures', { pictures: puzzles.length })} …`);
+  const engine = progress.held(start());
+  let name = '';
   try {
-    for (const one of puzzles) {
+    const made = await eachInTurn(puzzles, progress, async (one) => {
+      ({ name } = one);
       const doc = await openedIn(engine, baseOf(one.doc), pageOf(one.doc));
-      opened.push({ ...one, doc, clues: doc.clues });
-    }
-    say('');
-    return opened;
+      return take({ ...one, doc, clues: doc.clues });
+    });
+    return made.length === puzzles.length ? made : null;
   } catch (fault) {
-    say(phrase('library.nothingSavedPrinted', { name: puzzles[opened.length].name, fault: faultText(fault) }), 'alarm');
+    if (!progress.isStopped) say(phrase('library.nothingSavedPrinted', { name, fault: faultText(fault) }), 'alarm');
     return null;
   } finally {
     engine.end();

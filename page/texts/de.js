@@ -800,7 +800,6 @@ export const DE = /** @type {const} */ ({
   'start.rename': 'Umbenennen',
   'start.copy': '{name} Kopie',
   'start.duplicated': '„{name}“ wurde dupliziert.',
-  'start.pictures': '{pictures|# Bild|# Bilder}',
   'start.deleted': 'Gelöscht: {what}.',
   'start.broughtBack': 'Zurückgeholt: {what}.',
   'start.openElsewhere': 'Was in einem anderen Tab offen ist, wurde nicht gelöscht.',

@@ -800,7 +800,6 @@ export const EN = /** @type {const} */ ({
   'start.rename': 'Rename',
   'start.copy': '{name} copy',
   'start.duplicated': '“{name}” was duplicated.',
-  'start.pictures': '{pictures|# picture|# pictures}',
   'start.deleted': '{what} deleted.',
   'start.broughtBack': '{what} brought back.',
   'start.openElsewhere': 'What is open in another tab was not deleted.',

@@ -800,7 +800,6 @@ export const FR = /** @type {const} */ ({
   'start.rename': 'Renommer',
   'start.copy': '{name} copie',
   'start.duplicated': '« {name} » a été dupliquée.',
-  'start.pictures': '{pictures|# image|# d’images|# images}',
   'start.deleted': '{what} : supprimé.',
   'start.broughtBack': '{what} : de retour.',
   'start.openElsewhere': 'Ce qui est ouvert dans un autre onglet n’a pas été supprimé.',

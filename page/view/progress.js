@@ -7,6 +7,19 @@ import { openDialog } from './dialogs.js';
 const AFTER = 400; // milliseconds until it is shown
 const REST = 50; // milliseconds of work until the browser may draw
 
+/** In place of a Progress where nobody waits or stops it. */
+export const UNSEEN = { isStopped: false, goesOn: async (text) => true, held: (engine) => engine };
+
+/** What comes of items, one after the other, up to where `progress` does not go on. */
+export async function eachInTurn(items, progress, make) {
+  const made = [];
+  for (const [at, item] of items.entries()) {
+    if (!(await progress.goesOn(phrase('import.ofAll', { count: at, all: items.length })))) break;
+    made.push(await make(item, at));
+  }
+  return made;
+}
+
 export class Progress {
   isStopped = false;
   isEnded = false;

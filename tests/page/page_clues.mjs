@@ -94,3 +94,14 @@ test('where a picture does not open, nothing leaves, and that is said', async ()
   const strange = await made((start) => withClues(puzzles.slice(0, 1), start), { told: (text) => text.replace('clues\n', 'other clues\n') });
   assert.deepEqual([strange.found, strange.workers[0].isEnded, line.dataset.kind], [null, true, 'alarm']);
 });
+
+test('an archive is made picture by picture, up to where that is stopped: then nothing leaves, and nothing is said', async () => {
+  const puzzles = ['one', 'two', 'three'].map((name) => ({ name, doc: emptyDoc(2, 2) }));
+  const heard = [];
+  const progress = { isStopped: false, goesOn: async (text) => heard.push(text) < 3, held: (engine) => engine };
+  line.text = '';
+  const { found, workers: all } = await made((start) => archiveOf(puzzles, [], start, progress));
+  assert.deepEqual([found, heard, all[0].said.length, all[0].isEnded, line.text], [null, ['0 of 3', '1 of 3', '2 of 3'], 2, true, '']);
+  const within = await made((start) => archiveOf(puzzles, [], start, { isStopped: true, goesOn: async () => true, held: (engine) => (engine.end('stopped'), engine) }));
+  assert.deepEqual([within.found, line.text], [null, '']);
+});

@@ -1,7 +1,7 @@
 // Trials of the dialog for pictures and of what comes in: colours that look alike, a colour that is picked, the contact sheet, drawings
 // and other images, sheets of sprites, and the table of several files.
 import assert from 'node:assert/strict';
-import { writeFileSync } from 'node:fs';
+import { readdirSync, writeFileSync } from 'node:fs';
 import { join } from 'node:path';
 import { NO_PICKERS, clean, downloaded, drop, fresh, isOpen, said } from './page_hands.mjs';
 import { SIZES, SLACK, ppmOf } from './page_trial.mjs';
@@ -370,6 +370,28 @@ export async function stopsWithinFile({ browser, url, folder }) {
     assert.deepEqual(await page.run(() => [...document.querySelectorAll('#several tbody th')].map((cell) => cell.textContent)), ['many', 'many 2']);
     assert.match(await page.run(() => document.querySelector('#several tbody tr:last-child').textContent), /stopped$/);
     assert.deepEqual(await page.run(() => kept.map(({ isEnded }) => isEnded)), [true, true]);
+    await page.close();
+}
+
+/** An archive is made picture by picture; Stop ends that, and nothing is saved or said. */
+export async function archiveStops({ browser, url, folder }) {
+    const { page, own } = await fresh(browser, url, folder, 'archive-stops', { before: NO_PICKERS + KEEPING });
+    const toZip = async () => {
+        await dropFiles(page, ['a.ppm', 'b.ppm'].map((name) => [name, ppmOf(['aa.', '.a.'])]));
+        await page.until(() => /^2 pictures of 2/.test(document.getElementById('several-count')?.textContent), 20000 * SLACK);
+        await page.run(() => { kept.length = 0; window.keeps = ({ call }) => call === 'open'; });
+        await page.click('dialog[open] .buttons button:nth-of-type(2)');
+        await page.until(() => kept.length === 1 && document.querySelector('dialog[open] .progress')?.textContent === '0 of 2', 20000 * SLACK);
+    };
+    await toZip();
+    await page.press('Enter');
+    await page.until(() => !document.querySelector('dialog[open]') && kept[0].isEnded, 5000 * SLACK);
+    assert.deepEqual([await said(page), readdirSync(own).filter((name) => name.endsWith('.zip'))], ['', []]);
+    await page.run(() => { window.keeps = null; });
+    await toZip();
+    await page.run(() => { window.keeps = null; kept[0].go(); });
+    await downloaded(page, own, 'puzzles.zip');
+    assert.equal(await said(page), '2 pictures saved as “nonobench puzzles.zip”, with a report.');
     await page.close();
 }
 

@@ -447,7 +447,7 @@ test('the sprites of a sheet are cut one after the other, and no more than a tab
     const all = await rows(2001);
     assert.deepEqual([all.length, all[1999].name, all[1999].doc.picture, all[2000].doc], [2001, 'sheet 2000', ['a.'], null]);
     assert.match(all[2000].fault, /2,000/);
-    assert.deepEqual([(await rows(2000)).at(-1).name, told.length, told[1]], ['sheet 2000', 4000, '1 of 2,001']);
+    assert.deepEqual([(await rows(2000)).at(-1).name, told.length, told[1]], ['sheet 2000', 4000, '1 of 2,000']);
     told.length = 0;
     assert.equal((await rows(9, 3)).length, 3, 'stopped');
 });

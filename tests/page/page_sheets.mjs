@@ -29,7 +29,7 @@ const digitsOf = (sheet) => textsOf(sheet).filter(({ text }) => /^\d+[a-o■●�
 test('sheets are made one after the other, as long as that goes on, and only what is wanted of them is held', async () => {
     const puzzles = Array.from({ length: 5 }, (_, at) => ({ name: `${at}`, grade: null, doc: CROSS, clues: cluesOf(CROSS.picture) }));
     const made = [];
-    const inTurn = (text) => sheetsInTurn(puzzles, options(), async (far) => { made.push(far); return far !== text; }, ({ svg, cell }) => typeof svg === 'string' && cell);
+    const inTurn = (text) => sheetsInTurn(puzzles, options(), { goesOn: async (far) => { made.push(far); return far !== text; } }, ({ svg, cell }) => typeof svg === 'string' && cell);
     assert.deepEqual([await inTurn('2 of 5'), made], [null, ['0 of 5', '1 of 5', '2 of 5']]);
     const [first, ...others] = await inTurn('');
     assert.deepEqual([first > 0, others.map((cell) => cell === first)], [true, [true, true, true, true]]);
