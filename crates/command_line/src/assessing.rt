@@ -46,7 +46,7 @@ pub(crate) fn assess_of<'a>(
 fn files_of<'a>(alloc: Global, matches: &ArgMatches<'a>) -> Result<Vec<&'a str>, AllocError>
     ensures { IfOk result (λ files. texts files.items
         ≡ unwrap_or
-            (option_map raw_values (matched_of (found_of matches.now) (codes "files"))) []) }
+        (option_map raw_values (matched_of (found_of matches.now) (codes "files"))) []) }
 {
     match matches.get_strs("files") {
         Some(files) => Vec::from_slice(alloc, files),

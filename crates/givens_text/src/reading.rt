@@ -13,7 +13,7 @@ fn cell_in(cell: CellNumber, height: u8, width: u8) -> Option<(u8, u8)>
         result
         (is_inside height width cell ≡ false)
         (λ found. (is_inside height width cell ≡ true)
-            × (found.0 + 1 ≡ cell.row) × (found.1 + 1 ≡ cell.col)) }
+        × (found.0 + 1 ≡ cell.row) × (found.1 + 1 ≡ cell.col)) }
 {
     if cell.row == 0 || cell.row > u16::from(height) {
         return None;

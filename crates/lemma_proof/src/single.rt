@@ -10,9 +10,8 @@ use std::alloc::{AllocError, Global};
 /// The same certificate in the form `Lemmas`, with a single step on each line.
 pub fn with_single_steps(alloc: Global, cert: &Cert) -> Result<Cert, AllocError>
     ensures good { IfOk result (IsAsGood cert.now) }
-    ensures same {
-        IfOk result (λ one. one ≡ certificate Form.Lemmas cert.now.givens cert.now.lines [])
-    }
+    ensures same { IfOk result (λ one.
+        one ≡ certificate Form.Lemmas cert.now.givens cert.now.lines []) }
 {
     let mut givens = Vec::new(alloc);
     givens.extend_from_slice(cert.givens())?;

@@ -156,7 +156,7 @@ pub(crate) fn other_kept<'a>(
         keeper.now }
     ensures { MatchOption result (HasNoFilling keeper.now (length keeper.now))
         (λ other. FirstFilling keeper.now other.now
-            × IsOtherFor (design_of document.now) other.now) }
+        × IsOtherFor (design_of document.now) other.now) }
 {
     let _scene = scene_of(document, audit);
     keeper.other()

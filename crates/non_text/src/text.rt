@@ -67,7 +67,7 @@ fn put_blocks(text: &mut Vec<u8>, blocks: &[Block]) -> Result<(), AllocError>
 fn put_clues(text: &mut Vec<u8>, clues: &ClueBook, axis: Axis) -> Result<(), AllocError>
     ensures { OnOk result (text.new.items
         ≡ text.old.items
-            ++ flat_map (λ clue. clue_text clue ++ 10 ∷ []) (clues_along axis clues.now)) }
+        ++ flat_map (λ clue. clue_text clue ++ 10 ∷ []) (clues_along axis clues.now)) }
 {
     for at in 0..clues.line_count(axis) {
         put_blocks(text, clues.clue(LineId { axis, at }).blocks())?;
