@@ -16,7 +16,7 @@ import { addAction } from '../view/actions.js';
 import { openDialog } from '../view/dialogs.js';
 import { nearText, pairText } from '../view/dress.js';
 import { gradeAtHand } from '../view/grading.js';
-import { Progress, eachInTurn } from '../view/progress.js';
+import { eachInTurn, withProgress } from '../view/progress.js';
 import { asSeen } from '../view/tools.js';
 import { SHEET_TEXTS, entryOf } from './entries.js';
 import { GRIDS, PAPERS, isLarge, makersOf, partsOf } from './sheets.js';
@@ -195,10 +195,10 @@ const printPuzzle = () => asSeen(async (seen) => {
   if (!way) return;
   const options = readFields(fields);
   Object.assign(chosen, options, (bench.term !== seen.term || options.show === shownFirst(near)) && { show: chosen.show }); // what was only proposed is not chosen
-  const progress = new Progress(phrase('export.print'));
-  const opened = await openedOf(others.chosen(), options, progress);
-  const sheets = opened && (await sheetsInTurn([titled(), ...opened].sort(byName), options, progress));
-  progress.end();
+  const sheets = await withProgress(phrase('export.print'), async (progress) => {
+    const opened = await openedOf(others.chosen(), options, progress);
+    return opened && sheetsInTurn([titled(), ...opened].sort(byName), options, progress);
+  });
   if (!sheets) return;
   if (way === 'svg') return saveSvg(own.name, sheets, isZip(sheets));
   fillPrint(sheets);

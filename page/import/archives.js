@@ -10,7 +10,7 @@ import { recordOfDoc } from '../library/records.js';
 import { SAVE_TYPES, download } from '../library/saving.js';
 import { phrase } from '../texts/phrase.js';
 import { confirmDialog } from '../view/dialogs.js';
-import { Progress, UNSEEN } from '../view/progress.js';
+import { UNSEEN, withProgress } from '../view/progress.js';
 import { asSeen } from '../view/tools.js';
 import { grouped, puzzlesIn } from './beside.js';
 
@@ -26,9 +26,7 @@ export async function archiveOf(records, others = [], start = undefined, progres
 
 /** Hands records to the user as an archive under a name, and says a text of it. */
 export async function saveArchive(records, { file, text, kind = '', others = [] }) {
-  const progress = new Progress(phrase('import.saveAllZip'));
-  const bytes = await archiveOf(records, others, undefined, progress);
-  progress.end();
+  const bytes = await withProgress(phrase('import.saveAllZip'), (progress) => archiveOf(records, others, undefined, progress));
   if (!bytes) return;
   download(bytes, file, SAVE_TYPES.zip.type);
   say(text, kind, null, true);
@@ -106,15 +104,12 @@ export const mayAdd = async (count, name, title) => count <= MANY
 export async function takeArchive(bytes, name) {
   const files = filesIn(bytes).length;
   if (!(await mayAdd(files, name, phrase('import.addManyFiles', { files })))) return 0;
-  const progress = new Progress(phrase('import.opening', { name }));
-  try {
+  return withProgress(phrase('import.opening', { name }), async (progress) => {
     const { docs, unread, why } = await readArchive(bytes, progress);
     const { added, known } = await addAll(docs, progress);
     tellAdded(name, { docs, unread, why, added, known, isStopped: progress.isStopped });
     return added + known;
-  } finally {
-    progress.end();
-  }
+  });
 }
 
 // Says what came of an archive. Where the library took no more, it has said why.

@@ -7,7 +7,7 @@ import { plainOf } from '../engine/assessing.js';
 import { bench } from '../engine/bench.js';
 import { startEngine } from '../engine/client.js';
 import { phrase } from '../texts/phrase.js';
-import { Progress } from '../view/progress.js';
+import { withProgress } from '../view/progress.js';
 import { asSeen } from '../view/tools.js';
 
 // What an editor did to a certificate, by a word of what web/nonobench.mjs says of it.
@@ -46,8 +46,7 @@ export async function takeCertificate(certificate, name) {
   }
   await asSeen();
   const doc = docOf(bench.state);
-  const progress = new Progress(phrase('import.checking', { name }));
-  const { proves, text } = await checkedCertificate(certificate, doc, progress.held(startEngine())).finally(() => progress.end());
+  const { proves, text } = await withProgress(phrase('import.checking', { name }), (progress) => checkedCertificate(certificate, doc, progress.held(startEngine())));
   if (!bench.state || !sameDoc(doc, bench.state)) return false;
   const unsay = say(`${proves ? '✓ ' : ''}${phrase('import.certificateSays', { name, text })}`, proves ? '' : 'alarm');
   const end = on('shown', (state) => {

@@ -5,7 +5,7 @@ import { clamp } from '../base/words.js';
 import { MOST_CELLS } from '../document/limits.js';
 import { phrase } from '../texts/phrase.js';
 import { openDialog } from '../view/dialogs.js';
-import { Progress, eachInTurn } from '../view/progress.js';
+import { eachInTurn, withProgress } from '../view/progress.js';
 import { MOST_AT_ONCE } from './beside.js';
 import { docByItself, docProposed } from './proposing.js';
 import { Row } from './rows.js';
@@ -74,8 +74,6 @@ export async function cutSheet(image, canvas, name) {
     buttons: [{ name: phrase('import.cut'), value: true, main: true, test: () => (cutting.sprites.length ? '' : phrase('import.noSprites')) }],
   });
   if (!isCut) return false;
-  const progress = new Progress(phrase('import.cutSheet', { name }));
-  const rows = await rowsOfSprites(cutting.sprites, name, progress);
-  progress.end();
+  const rows = await withProgress(phrase('import.cutSheet', { name }), (progress) => rowsOfSprites(cutting.sprites, name, progress));
   return rows.length > 0 && showRows(rows);
 }

@@ -14,7 +14,7 @@ import { recordOfDoc } from '../library/records.js';
 import { phrase } from '../texts/phrase.js';
 import { isTyping } from '../view/actions.js';
 import { openDialogs } from '../view/dialogs.js';
-import { Progress } from '../view/progress.js';
+import { Progress, withProgress } from '../view/progress.js';
 import { mayAdd, takeArchive } from './archives.js';
 import { MOST_AT_ONCE, grouped } from './beside.js';
 import { takeCertificate } from './certificates.js';
@@ -91,13 +91,7 @@ function takeNon(text, name, handle) {
 
 // Of clues without a goal a picture is searched for, in a worker of its own, which the user can stop.
 async function openNon(text, name, page, handle = null) {
-  const progress = new Progress(phrase('import.opening', { name }), phrase('import.searchingPictureTheseClues'));
-  let doc;
-  try {
-    doc = await docOfNon(text, page, progress.held(startEngine()));
-  } finally {
-    progress.end();
-  }
+  const doc = await withProgress(phrase('import.opening', { name }), (progress) => docOfNon(text, page, progress.held(startEngine())), phrase('import.searchingPictureTheseClues'));
   return openDoc(doc, { name, handle, form: 'non' });
 }
 

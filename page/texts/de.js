@@ -826,6 +826,7 @@ export const DE = /** @type {const} */ ({
   'start.newOpen': 'Neu oder öffnen …',
   'start.openFile': 'Dateien öffnen …',
   'start.linkCouldNotOpened': 'Der Link ließ sich nicht öffnen: {fault}',
+  'start.dialogCloses': 'Der offene Dialog wird geschlossen, und was in ihm getan wurde, geht verloren.',
   'start.changeLanguage': 'Sprache wechseln',
   'start.languageLoses': 'Für die andere Sprache startet die Seite neu. Ihr Bild bleibt, mit allem, was sich rückgängig machen lässt; die Vorlage zum Abpausen geht verloren.',
   'start.languageNotKept': 'Der Browser bewahrt Ihr Bild nicht auf, daher bleibt die Seite offen, wie sie ist. Speichern Sie das Bild in einer Datei und laden Sie die Seite neu: Dann hat sie die andere Sprache.',

@@ -826,6 +826,7 @@ export const EN = /** @type {const} */ ({
   'start.newOpen': 'New or open …',
   'start.openFile': 'Open files …',
   'start.linkCouldNotOpened': 'The link could not be opened: {fault}',
+  'start.dialogCloses': 'The open dialog closes, and what was done in it is lost.',
   'start.changeLanguage': 'Change the language',
   'start.languageLoses': 'The page restarts in the other language. Your picture stays, with its undo; the image to trace is lost.',
   'start.languageNotKept': 'The browser does not keep your picture, so the page stays as it is. Save the picture to a file and reload the page: it has the other language then.',

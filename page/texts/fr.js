@@ -826,6 +826,7 @@ export const FR = /** @type {const} */ ({
   'start.newOpen': 'Nouveau ou ouvrir …',
   'start.openFile': 'Ouvrir des fichiers …',
   'start.linkCouldNotOpened': 'Le lien n’a pu être ouvert : {fault}',
+  'start.dialogCloses': 'La boîte de dialogue ouverte se ferme, et ce qui y a été fait est perdu.',
   'start.changeLanguage': 'Changer de langue',
   'start.languageLoses': 'La page redémarre dans l’autre langue. Votre image reste, avec ses annulations ; le calque est perdu.',
   'start.languageNotKept': 'Le navigateur ne garde pas votre image, la page reste donc comme elle est. Enregistrez l’image dans un fichier et rechargez la page : elle aura alors l’autre langue.',

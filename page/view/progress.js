@@ -60,3 +60,9 @@ export class Progress {
     this.line.closest('dialog')?.close();
   }
 }
+
+/** Does work that tells a Progress how far it is, until it ends. */
+export async function withProgress(title, work, text = '') {
+  const progress = new Progress(title, text);
+  return work(progress).finally(() => progress.end());
+}

@@ -107,6 +107,31 @@ export async function linkInTheSameTab({ browser, url, folder }) {
     await page.close();
 }
 
+/** A link asks before it closes a dialog in which something was done; where it is not opened, the same link asks again. */
+export async function linkOverDialog({ browser, url, folder }) {
+    const { page, trial } = await fresh(browser, url, folder, 'over-dialog');
+    await trial.open(ppmOf(DUCK), 'duck');
+    const link = (await fragment(page, 'edit')).replace(/^[^#]*/, '');
+    await trial.open(ppmOf(TWO_WAYS), 'two');
+    const address = await page.run(() => location.href);
+    await page.run((text) => {
+        const dataTransfer = new DataTransfer();
+        for (const name of ['a', 'b']) dataTransfer.items.add(new File([text], `${name}.ppm`));
+        document.body.dispatchEvent(new DragEvent('drop', { dataTransfer, bubbles: true, cancelable: true }));
+    }, ppmOf(ONE_WAY));
+    await page.until(() => document.querySelector('dialog[open] #several'), 8000 * SLACK);
+    for (const button of ['Cancel', 'Open']) {
+        await page.run((hash) => { location.hash = hash; }, link);
+        await page.until(() => /The open dialog closes/.test([...document.querySelectorAll('dialog[open]')].at(-1)?.textContent), 5000 * SLACK);
+        await page.run((name) => [...document.querySelectorAll('dialog[open] button')].findLast((one) => one.textContent === name).click(), button);
+        await page.until((count) => document.querySelectorAll('dialog[open]').length === count, 5000 * SLACK, button === 'Cancel' ? 1 : 0);
+        if (button === 'Cancel') await page.until((before) => location.href === before, 3000 * SLACK, address);
+    }
+    await page.until((rows) => bench.state.picture.join() === rows, 5000 * SLACK, DUCK.join());
+    assert.ok(await page.run((hash) => location.hash === hash, link));
+    await page.close();
+}
+
 /** Where a link to play follows another one in the same tab, the player of the first is gone; behind a damaged one it stays, alone. */
 export async function playersInTheSameTab({ browser, url, folder }) {
     const { page } = await fresh(browser, url, folder, 'players');
