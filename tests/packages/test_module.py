@@ -105,4 +105,4 @@ def test_rates_beside_those_of_the_library(module, library, tmp_path, monkeypatc
 @pytest.mark.all
 def test_beside_the_program(kept, module):
     needs('node')
-    passes(['node', ROOT / 'web' / 'compare.mjs', '1000'], env={'NONOBENCH': str(kept.program('nonobench')), 'WASM': str(module)})
+    passes(['node', ROOT / 'tests' / 'packages' / 'compare.mjs', '1000'], env={'NONOBENCH': str(kept.program('nonobench')), 'WASM': str(module)})

@@ -11,7 +11,7 @@ import { Bench } from '../../page/engine/bench.js';
 import { Client } from '../../page/engine/client.js';
 import { bytesOfSigns, signsOf } from '../../page/engine/signs.js';
 import { readRecord, recordOf } from '../../page/library/records.js';
-import { Chance } from '../../web/chance.mjs';
+import { Chance } from '../packages/chance.mjs';
 
 const test = (name, f) => testAlways(name, needsModule, f);
 const COLOURS = [[255, 255, 255], [0, 0, 0], [200, 30, 30]];

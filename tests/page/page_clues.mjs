@@ -10,7 +10,7 @@ import { docOf, emptyDoc, sameDoc } from '../../page/document/document.js';
 import { Client } from '../../page/engine/client.js';
 import { archiveOf } from '../../page/import/archives.js';
 import { withClues } from '../../page/library/open.js';
-import { Chance } from '../../web/chance.mjs';
+import { Chance } from '../packages/chance.mjs';
 
 const test = (name, f) => testAlways(name, needsModule, f);
 const line = saidLine();

@@ -1,16 +1,16 @@
 // Compares the module with the native program, byte for byte:
-// NONOBENCH=program WASM=module node web/compare.mjs [CASES] [SEED].
+// NONOBENCH=program WASM=module node tests/packages/compare.mjs [CASES] [SEED].
 // All sessions and worked rows of tests/ and examples/, certificates of 12 MB, and CASES made by chance (1,000): pictures and puzzles
 // with lines, files with a byte changed, backgrounds, and certificates that are right and wrong. What differs is printed, and the
 // status is then 1.
 import { existsSync, readFileSync, readdirSync } from 'node:fs';
 import { dirname, join } from 'node:path';
 import { fileURLToPath } from 'node:url';
-import { bytesOf, casesOf, pairOf } from '../tests/cases.mjs';
+import { bytesOf, casesOf, pairOf } from '../cases.mjs';
 import { Chance } from './chance.mjs';
 import { Program, answerBy } from './sides.mjs';
 
-const root = join(dirname(fileURLToPath(import.meta.url)), '..');
+const root = join(dirname(fileURLToPath(import.meta.url)), '..', '..');
 const [cases = '1000', seed = '1'] = process.argv.slice(2);
 const program = new Program(process.env.NONOBENCH ?? join(root, 'crates', 'nonobench', 'out', 'nonobench'));
 const inside = await answerBy(readFileSync(process.env.WASM ?? join(root, 'web', 'out', 'nonobench.wasm')));

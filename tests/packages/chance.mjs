@@ -1,4 +1,4 @@
-// Pictures, lines and marred texts by chance, the same for the same seed: what web/compare.mjs asks besides what stands in files.
+// Pictures, lines and marred texts by chance, the same for the same seed: what compare.mjs asks besides what stands in files.
 
 /** Chance from a seed. */
 export class Chance {

@@ -1,4 +1,4 @@
-// The two sides that web/compare.mjs compares: the native program, and the module in node. Each has a call
+// The two sides that compare.mjs compares: the native program, and the module in node. Each has a call
 // `answer`, which gives {out, said, status}: what is written, what is said on standard error, and the status. It is asked
 // {call: 'work', file, lines, options}, {call: 'check', file, certificate, givens, options}, where there may be no givens,
 // {call: 'prove', file, options} or {call: 'clues', file, options}, as bytes.
@@ -6,7 +6,7 @@ import { spawnSync } from 'node:child_process';
 import { closeSync, mkdtempSync, openSync, readFileSync, rmSync, writeFileSync } from 'node:fs';
 import { tmpdir } from 'node:os';
 import { join } from 'node:path';
-import { load } from './nonobench.mjs';
+import { load } from '../../web/nonobench.mjs';
 
 /** The native program, with its files in a folder of its own. */
 export class Program {
