@@ -18,9 +18,9 @@ def write(path, text, mode=0o644):
     path.chmod(mode)
 
 
-def run(script, *words, cwd='/', home='/nonexistent'):
+def run(script, *words, cwd='/', home='/nonexistent', **others):
     """The status, and what was printed and said."""
-    env = {'PATH': '/usr/bin:/bin', 'HOME': str(home)}
+    env = {'PATH': '/usr/bin:/bin', 'HOME': str(home), **others}
     ended = subprocess.run([str(script), *map(str, words)], cwd=cwd, env=env, capture_output=True, text=True, check=False)
     return ended.returncode, ended.stdout, ended.stderr
 
@@ -65,6 +65,12 @@ def test_installed_and_removed(archive, tmp_path):
     write(prefix / 'lib/nonobench/nonobench/__pycache__/__init__.pyc', '')
     assert run(archive / 'install', '--uninstall', '--prefix', prefix)[0] == 0
     assert (files(prefix), sorted(os.listdir(prefix)), os.listdir(prefix / 'share')) == (['bin/mine'], ['bin', 'share'], ['empty'])
+
+
+@pytest.mark.parametrize('folder', ['an archive', 'checkout'])
+def test_a_search_path_of_folders(archive, checkout, folder, tmp_path):
+    status, out, _ = run(f'{folder}/install', '--prefix', tmp_path / 'prefix', cwd=tmp_path, CDPATH=f'.:{tmp_path}')
+    assert (status, out.splitlines()[-1]) == (0, 'nonobench 9.9.9')
 
 
 def test_removed_by_the_copy_that_was_installed(archive, tmp_path):
