@@ -31,8 +31,9 @@ function blockOf(engine, path, options) {
   }
 }
 
-// A certificate with lemmas in its older form: a step on each line.
+// A certificate with lemmas in its older form: a step on each line. A tree has that.
 function singleSteps(certificate) {
+  if (!certificate.startsWith('nonolemma 2\n')) return certificate;
   const lines = (line, word, steps) => steps.split(' ').map((step) => `${word} ${word === 'line' ? `${step[0]} ${step.slice(1)}` : step}`).join('\n');
   return certificate.replace('nonolemma 2', 'nonolemma 1').replace(/^(line|use|drop) (.*)$/gm, lines);
 }
