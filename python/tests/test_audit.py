@@ -689,7 +689,7 @@ class Running(Case):
         out, stays = os.path.realpath(self.folder) + "/out", "it stays, though the puzzle is not unique\n"
         self.put("set.xml", "<puzzleset>" + webpbn(UNIQUE) * 2 + "</puzzleset>")
         self.put("one.ppm", p3(UNIQUE))
-        words = ["site", "--allow", "9", "--jsonl", "rows", "--resume"]
+        words = ["site", "--allow", "9", "--jsonl", "rows", "--resume", "--quiet"]
         self.assertEqual(self.run_audit(*words, "--certify", "out", "--ppm", "out", status=0).stderr, "")
         self.put("one.ppm", p3(AMBIGUOUS))
         self.put("set.xml", "<puzzleset>" + webpbn(UNIQUE) + webpbn(AMBIGUOUS) + "</puzzleset>")
@@ -700,6 +700,17 @@ class Running(Case):
         for name in ("one.cert", "set.2.cert"):
             self.put(name, CERT)
         self.assertEqual(self.run_audit(*words, "--certify", "site", status=1).stderr, "")
+
+    def test_no_picture_of_a_kept_row_that_is_not_true_is_written(self):
+        """The one that was published stays, with the certificate that is of it."""
+        self.put("one.ppm", p3(UNIQUE))
+        words = ["--allow", "9", "--certify", "out", "--ppm", "out"]
+        row = self.rows("site", *words, status=0)["site/one.ppm"]
+        self.put("one.ppm", p3(AMBIGUOUS))
+        other = self.rows("site", "--allow", "9", status=1)["site/one.ppm"]
+        (self.folder / "rows.jsonl").write_text(json.dumps({**row, "content": other["content"], "sha256": other["sha256"]}, separators=(",", ":")) + "\n")
+        self.assertEqual(self.rows("site", *words, "--resume", status=1), {"site/one.ppm": other})
+        self.assertEqual((self.folder / "out" / "one.ppm").read_bytes(), p3(UNIQUE))
 
     def test_kept_rows_are_of_the_pictures_that_lie_there(self):
         self.put("one.ppm", p3(UNIQUE))
@@ -1331,7 +1342,7 @@ class Again(Case):
         self.put("one.ppm", p3(UNIQUE))
         self.put("two.ppm", p3(UNIQUE))
         self.put("set.xml", "<puzzleset>" + webpbn(UNIQUE) * 3 + "</puzzleset>")
-        words = ["--allow", "9", "--jsonl", "rows.jsonl", "--resume"]
+        words = ["--allow", "9", "--jsonl", "rows.jsonl", "--resume", "--quiet"]
         self.assertEqual(self.run_audit("site", *words, status=0).stderr, "")
         self.put("set.xml", "<puzzleset>" + webpbn(UNIQUE) * 2 + "</puzzleset>")
         self.assertEqual(self.run_audit("site", *words, status=0).stderr, "")

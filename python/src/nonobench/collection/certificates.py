@@ -50,22 +50,21 @@ def _told(desk: Desk, puzzle: Puzzle, held: bytes) -> tuple[Row, Optional[Assess
 def holds(
     desk: Desk, puzzle: Puzzle, row: Row, held: Optional[bytes], beside: list[bytes], published: Optional[str], allowance: Optional[int]
 ) -> bool:
-    """Whether all that a row says of a puzzle with one solution is true. Its picture is written again if it differs."""
+    """Whether all that a row says of a puzzle with one solution is true. Then its picture is written again if it differs."""
     puzzle = desk.painted(puzzle)
-    if published is not None and publish(puzzle, published):
-        return False
-    if held is None:
-        return True
-    words, by = told(desk, puzzle, beside)
-    try:
-        made = desk.assess(puzzle, held)
-    except Unreadable:
-        return False
-    # Which given is not needed a certificate does not tell.
-    said = by or (desk.assess(puzzle, None, allowance) if puzzle.givens else made)
-    grade = graded(said if by else made)
-    wanted = {**judged_row(puzzle, said), **grade, "lines": held.count(b"\n"), **words}
-    return wanted == {name: value for name, value in row.items() if name not in UNBOUND}
+    if held is not None:
+        words, by = told(desk, puzzle, beside)
+        try:
+            made = desk.assess(puzzle, held)
+        except Unreadable:
+            return False
+        # Which given is not needed a certificate does not tell.
+        said = by or (desk.assess(puzzle, None, allowance) if puzzle.givens else made)
+        grade = graded(said if by else made)
+        wanted = {**judged_row(puzzle, said), **grade, "lines": held.count(b"\n"), **words}
+        if wanted != {name: value for name, value in row.items() if name not in UNBOUND}:
+            return False
+    return published is None or not publish(puzzle, published)
 
 
 def numbered_name(name: str, number: int) -> str:
