@@ -4,6 +4,7 @@ The certificates are those of examples/ and tests/cases/, or follow from docs/FO
 """
 
 import os
+import re
 import signal
 import subprocess
 import sys
@@ -492,14 +493,29 @@ def test_a_check_has_so_much_processor_time(site, checked, monkeypatch):
     assert checked("site", "--seconds", PATIENCE, "--processor", "1") == (1, ["site/one.cert: no answer within its processor time"])
 
 
-def test_a_worker_ends_a_call_by_its_processor_time():
-    with nonobench.Worker(seconds=PATIENCE, processor=1) as worker:
-        began = os.times().children_user
-        for _ in range(2):
-            with pytest.raises(TimeoutError, match="processor time"):
-                worker.verdict(ENDLESS)
-        assert os.times().children_user - began < 6
-        assert worker.check(DIAGONAL.encode(), DIAGONAL_CERT.encode()).givens == ()
+@pytest.mark.parametrize("way", ("as it is", "ignored", "blocked"))
+def test_a_worker_ends_a_call_by_its_processor_time(way):
+    """Whatever the program that starts it does with the signals that end it."""
+    ends = {signal.SIGALRM, signal.SIGXCPU}
+    before = {number: signal.signal(number, signal.SIG_IGN if way == "ignored" else signal.SIG_DFL) for number in ends}
+    mask = signal.pthread_sigmask(signal.SIG_BLOCK, ends if way == "blocked" else ())
+    try:
+        with nonobench.Worker(seconds=PATIENCE, processor=1) as worker:
+            began = os.times().children_user
+            for _ in range(2):
+                with pytest.raises(TimeoutError, match="processor time"):
+                    worker.verdict(ENDLESS)
+            assert os.times().children_user - began < 6
+            assert worker.check(DIAGONAL.encode(), DIAGONAL_CERT.encode()).givens == ()
+            held = re.findall("^Sig(?:Blk|Ign):\t(.*)$", Path(f"/proc/{worker._process.pid}/status").read_text(), re.MULTILINE)
+            assert [int(word, 16) & sum(1 << number - 1 for number in ends) for word in held] == [0, 0]
+    finally:
+        signal.pthread_sigmask(signal.SIG_SETMASK, mask)
+        for number, handler in before.items():
+            signal.signal(number, handler)
+
+
+def test_processor_times_that_are_none():
     for processor in (0, -1, 1 << 40):
         with pytest.raises(ValueError):
             nonobench.Worker(processor=processor)

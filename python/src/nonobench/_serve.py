@@ -108,9 +108,13 @@ def _allow(processor: int) -> None:
 
 def serve(memory: int) -> None:
     """Answers questions until nobody asks any more. What ends the process: a question that takes too long, and the end of who asks."""
+    import _signal as signal  # type: ignore  # as in _loading
     import fcntl
     alarm = ctypes.CDLL(None).alarm
     begin(memory)
+    for number in (signal.SIGALRM, signal.SIGXCPU):  # they end it, also where who asks ignores or blocks them
+        signal.signal(number, signal.SIG_DFL)
+    signal.pthread_sigmask(signal.SIG_SETMASK, ())
     for command, value in ((fcntl.F_SETSIG, 9), (fcntl.F_SETOWN, os.getpid()), (fcntl.F_SETFL, os.O_WRONLY | os.O_ASYNC)):
         fcntl.fcntl(1, command, value)  # killed with who asks, where the system closes the other end of its standard output
     try:
