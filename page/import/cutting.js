@@ -10,18 +10,19 @@ import { MOST_AT_ONCE } from './beside.js';
 import { docByItself, docProposed } from './proposing.js';
 import { Row } from './rows.js';
 import { showRows } from './several.js';
-import { fieldsOf, gridOf, spritesOf } from './sprites.js';
+import { cutOut, fieldsOf, gridOf, shownOf, spritesOf } from './sprites.js';
 
 const MOST_FIELDS = 64; // a side
 const SHOWN = { width: 560, height: 360 }; // pixels of the screen
 const FIRST = { columns: 4, rows: 4, gap: 0, margin: 0 }; // where no grid is found
 
-class Cutting {
+export class Cutting {
   constructor(image, canvas) {
     this.image = image;
     this.source = canvas;
-    this.sprites = [];
-    this.grid = gridOf(image);
+    this.shown = shownOf(image);
+    this.sprites = []; // their fields: they are cut out when the grid is as wanted
+    this.grid = gridOf(image, this.shown);
     const found = this.grid ? phrase('import.gridFound') : phrase('import.gridNotFound');
     this.grid ??= FIRST;
     const field = (name, text, least, most) => {
@@ -42,7 +43,7 @@ class Cutting {
 
   show() {
     const { width, height } = this.image;
-    this.sprites = spritesOf(this.image, this.grid);
+    this.sprites = spritesOf(this.image, this.grid, this.shown);
     const scale = Math.min(SHOWN.width / width, SHOWN.height / height);
     const by = scale > 1 ? Math.floor(scale) : scale;
     Object.assign(this.canvas, { width: Math.round(width * by), height: Math.round(height * by) });
@@ -59,10 +60,10 @@ class Cutting {
 // A sprite pixel by pixel where it can be, else as the dialog for pictures proposes it. No file has it by itself.
 const docOfSprite = (sprite) => ({ ...((sprite.width <= MOST_CELLS && sprite.height <= MOST_CELLS && docByItself(sprite)) || docProposed(sprite)), isMade: true });
 
-/** The rows of sprites, one after the other, up to where the user stops it or a table has no more. */
-export async function rowsOfSprites(sprites, name, progress) {
+/** The rows of the sprites of a sheet, one after the other, up to where the user stops it or a table has no more. */
+export async function rowsOfSprites(image, sprites, name, progress) {
   const taken = sprites.slice(0, MOST_AT_ONCE);
-  const rows = await eachInTurn(taken, progress, (sprite, at) => new Row(`${name} ${at + 1}`, docOfSprite(sprite)));
+  const rows = await eachInTurn(taken, progress, (field, at) => new Row(`${name} ${at + 1}`, docOfSprite(cutOut(image, field))));
   return sprites.length > taken.length && rows.length === taken.length ? [...rows, new Row(name, null, phrase('import.othersLeftOut', { most: MOST_AT_ONCE }))] : rows;
 }
 
@@ -74,6 +75,6 @@ export async function cutSheet(image, canvas, name) {
     buttons: [{ name: phrase('import.cut'), value: true, main: true, test: () => (cutting.sprites.length ? '' : phrase('import.noSprites')) }],
   });
   if (!isCut) return false;
-  const rows = await withProgress(phrase('import.cutSheet', { name }), (progress) => rowsOfSprites(cutting.sprites, name, progress));
+  const rows = await withProgress(phrase('import.cutSheet', { name }), (progress) => rowsOfSprites(image, cutting.sprites, name, progress));
   return rows.length > 0 && showRows(rows);
 }

@@ -6,11 +6,11 @@ const LEAST = 6; // pixels a side of a sprite
 const MOST_GAP = 4; // pixels between sprites
 const CROSSED = 0.5; // of what crosses a line in the mean: what crosses one of the grid, at most
 
-// For each pixel whether it shows something: what is transparent does not, or else the colour of the first pixel.
-function shownOf({ width, height, data }) {
+/** For each pixel of a sheet whether it shows something: what is transparent does not, or else the colour of the first pixel. */
+export function shownOf({ width, height, data }) {
   const pixels = new Uint32Array(data.buffer, data.byteOffset, width * height);
   const isClear = pixels.some((_, at) => isTransparent(data, at * 4));
-  return Uint8Array.from(pixels, (pixel, at) => Number(isClear ? !isTransparent(data, at * 4) : pixel !== pixels[0]));
+  return new Uint8Array(pixels.length).map((_, at) => Number(isClear ? !isTransparent(data, at * 4) : pixels[at] !== pixels[0]));
 }
 
 // For each line between two columns (or rows) how many pixels are shown on both of its sides, and for each column how many are shown.
@@ -39,9 +39,7 @@ function fieldsIn({ crossing, filled, mean }, side, gap, margin) {
 }
 
 /** The grid of a sheet with square fields, the smallest that it can be: `{ columns, rows, gap, margin }`; null where none is seen. */
-export function gridOf(image) {
-  const { width, height } = image;
-  const shown = shownOf(image);
+export function gridOf({ width, height }, shown) {
   if (!shown.includes(1)) return null;
   const [across, down] = [profileOf(shown, width, height, (x, y) => y * width + x), profileOf(shown, height, width, (y, x) => y * width + x)];
   for (let side = LEAST; side <= Math.max(width, height) / 2; side++) {
@@ -69,12 +67,14 @@ export function fieldsOf({ width, height }, { columns, rows, gap, margin }) {
   return fields;
 }
 
-/** The sprites of a sheet, each an image: the fields of its grid that show something. */
-export function spritesOf(image, grid) {
-  const shown = shownOf(image);
+/** The fields of a grid that show something: each is a sprite. */
+export function spritesOf(image, grid, shown) {
   const isShown = ({ x, y, width, height }) => {
     for (let row = y; row < y + height; row++) if (shown.subarray(row * image.width + x, row * image.width + x + width).includes(1)) return true;
     return false;
   };
-  return fieldsOf(image, grid).filter(isShown).map((field) => scaledTo(image, field, field.width, field.height, true));
+  return fieldsOf(image, grid).filter(isShown);
 }
+
+/** The image that a sprite is. */
+export const cutOut = (image, field) => scaledTo(image, field, field.width, field.height, true);

@@ -15,7 +15,7 @@ import { writeZip, zipEntries } from '../../page/formats/zip.js';
 import { readZip } from '../../page/test/zips.mjs';
 import { readArchive } from '../../page/import/archives.js';
 import { docsOfUnit, grouped, hasCertificate, puzzlesIn } from '../../page/import/beside.js';
-import { rowsOfSprites } from '../../page/import/cutting.js';
+import { Cutting, rowsOfSprites } from '../../page/import/cutting.js';
 import { unitsIn } from '../../page/import/folders.js';
 import { docOfNon } from '../../page/import/reading.js';
 import { docByItself, proposalFor } from '../../page/import/proposing.js';
@@ -438,12 +438,33 @@ test('enlarged pixel art of many colours has as many as the dialog proposes, and
     assert.deepEqual([docByItself(few).all, docByItself(few).colours.length], [16, 16]);
 });
 
-test('the sprites of a sheet are cut one after the other, and no more than a table has rows', async () => {
+// Elements as far as a dialog asks for them; answers all that are made.
+function elements() {
     globalThis.ImageData = class {};
-    const element = { append() {}, setAttribute() {}, replaceChildren() {}, getContext: () => ({ putImageData() {}, drawImage() {} }) };
-    globalThis.document = { createElement: () => ({ ...element }) };
+    const [made, pen] = [[], { putImageData() {}, drawImage() {}, strokeRect() {} }];
+    const element = { append() {}, replaceChildren() {}, setAttribute(name, value) { this[name] = value; }, addEventListener(name, hear) { this[name] = hear; }, getContext: () => pen };
+    globalThis.document = { createElement: () => made[made.push({ ...element }) - 1] };
+    return made;
+}
+
+test('while the grid of a sheet is typed its sprites are counted, and no pixel is read again', () => {
+    const made = elements();
+    const { width, height, data } = imageOf(['kk--', 'kk--', '--k-', '--k-'], 6);
+    let reads = 0;
+    const cutting = new Cutting({ width, height, get data() { reads++; return data; } }, {});
+    const told = [cutting.count.textContent];
+    const before = reads;
+    for (const [name, value] of [['columns', '1'], ['rows', '1'], ['columns', '4'], ['rows', '4']]) {
+        Object.assign(made.find(({ id }) => id === `cut-${name}`), { value }).input();
+        told.push(cutting.count.textContent);
+    }
+    assert.deepEqual([reads - before, told], [0, ['2 sprites of 12 by 12 pixels', '2 sprites of 24 by 12 pixels', '1 sprite of 24 by 24 pixels', '3 sprites of 6 by 24 pixels', '6 sprites of 6 by 6 pixels']]);
+});
+
+test('the sprites of a sheet are cut one after the other, and no more than a table has rows', async () => {
+    elements();
     const told = [];
-    const rows = async (count, most = Infinity) => rowsOfSprites(Array(count).fill(imageOf(['kw'], 1)), 'sheet', { goesOn: async (text) => told.push(text) <= most });
+    const rows = async (count, most = Infinity) => rowsOfSprites(imageOf(['wwkw']), Array(count).fill({ x: 2, y: 0, width: 2, height: 1 }), 'sheet', { goesOn: async (text) => told.push(text) <= most });
     const all = await rows(2001);
     assert.deepEqual([all.length, all[1999].name, all[1999].doc.picture, all[2000].doc], [2001, 'sheet 2000', ['a.'], null]);
     assert.match(all[2000].fault, /2,000/);

@@ -3,7 +3,9 @@
 import assert from 'node:assert/strict';
 import { test } from 'node:test';
 import '../../page/test/limits.mjs';
-import { fieldsOf, gridOf, spritesOf } from '../../page/import/sprites.js';
+import { cutOut, fieldsOf, shownOf, spritesOf, gridOf as gridIn } from '../../page/import/sprites.js';
+
+const gridOf = (sheet) => gridIn(sheet, shownOf(sheet));
 
 const COLOURS = { w: [255, 255, 255, 255], k: [0, 0, 0, 255], r: [200, 30, 50, 255], '-': [0, 0, 0, 0] };
 function imageOf(rows) {
@@ -18,9 +20,9 @@ const beside = (...sprites) => SPRITE.map((_, row) => sprites.map((sprite) => sp
 test('a grid without gaps', () => {
     const sheet = imageOf([...beside(SPRITE, SPRITE, SPRITE), ...beside(SPRITE, EMPTY, SPRITE)]);
     assert.deepEqual(gridOf(sheet), { columns: 3, rows: 2, gap: 0, margin: 0 });
-    const sprites = spritesOf(sheet, gridOf(sheet));
+    const sprites = spritesOf(sheet, gridOf(sheet), shownOf(sheet));
     assert.equal(sprites.length, 5, 'an empty field is none');
-    for (const sprite of sprites) assert.deepEqual(sprite, imageOf(SPRITE));
+    for (const sprite of sprites) assert.deepEqual(cutOut(sheet, sprite), imageOf(SPRITE));
 });
 
 test('a grid with gaps and a margin, on white', () => {
@@ -29,7 +31,7 @@ test('a grid with gaps and a margin, on white', () => {
     const row = padded(SPRITE).map((one) => `ww${one}ww${one}ww${one}ww`);
     const sheet = imageOf([line, line, ...row, line, line, ...row, line, line]);
     assert.deepEqual(gridOf(sheet), { columns: 3, rows: 2, gap: 2, margin: 2 });
-    assert.deepEqual(spritesOf(sheet, gridOf(sheet)).map(({ width, height }) => [width, height]), Array(6).fill([8, 8]));
+    assert.deepEqual(spritesOf(sheet, gridOf(sheet), shownOf(sheet)).map(({ width, height }) => [width, height]), Array(6).fill([8, 8]));
 });
 
 test('a single picture has no grid', () => {
