@@ -402,9 +402,10 @@ def test_a_folder_is_gone_through_once_whatever_names_alternate(site, checked, m
         for folder in range(5):
             pair(site, f"{one}d{folder}/x", CROSS)
     searched, search = [], finding._scanned
-    monkeypatch.setattr(finding, "_scanned", lambda place, ends: searched.append(place) or search(place, ends))
+    monkeypatch.setattr(finding, "_scanned", lambda place, ends: searched.append((place, ends)) or search(place, ends))
     assert len(checked("site")[1]) == 18
-    assert len(searched) == len(set(searched)) == 16
+    assert len([place for place, ends in searched if not ends]) == len({place for place, ends in searched if not ends}) == 16
+    assert len(searched) == 16 + 2 * 16  # noted before and compared behind
 
 
 def test_shares(site, checked):
@@ -446,6 +447,14 @@ def test_an_operators_folder_that_changes_meanwhile_is_told(site, checked, tmp_p
     else:
         assert status == 3
         assert any(line in lines for line in (*(f"{tmp_path}/own/{name}/: {finding.CHANGED}" for name in "ab"), f"own: {finding.CHANGED}"))
+
+
+@pytest.mark.parametrize("change", ("rm site/1.ppm", "cp site/1.ppm site/2.ppm", "echo >> site/1.ppm", "touch site/1.givens", "mkdir site/new.cert"))
+def test_a_site_that_changes_meanwhile_is_told(site, checked, monkeypatch, change):
+    pair(site, "1", DIAGONAL, ALL)
+    real = finding.picture_of
+    monkeypatch.setattr(finding, "picture_of", lambda *words: [real(*words), subprocess.run(change, shell=True, check=True, cwd=site.parent)][0])
+    assert checked("site", "--untrusted")[1][-1] == f"site/: {finding.CHANGED}"
 
 
 def test_certificates_in_a_folder_of_their_own(site, checked, tmp_path):

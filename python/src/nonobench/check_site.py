@@ -62,7 +62,8 @@ class Site:
         # The real paths, of which nothing below them may be a link.
         self._folder, *held = (folder and os.path.realpath(folder) for folder in (told.folder, self._certificates, published))
         self._places = finding.Places(*held, told.untrusted, is_site=True)
-        finding.begin(told.certificates, told.givens)
+        finding.begin(told.folder, told.certificates, told.givens)
+        finding.note(told.folder, (*finding.HELD, *finding.TOLD, *finding.SUFFIXES))
         self._shard = told.shard
         self.unsearched: list[Answer] = []
         self.unread: list[Answer] = []  # in whose place another certificate is

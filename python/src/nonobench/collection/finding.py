@@ -229,13 +229,13 @@ def _listed(way: str, front: str, ends: tuple[str, ...]) -> Listed:
     """
     folder = os.path.join(way, front)
     listed = _scanned(folder, ends)
-    is_seen = ends and listed and os.path.realpath(folder) == os.path.join(os.path.realpath(way), front).rstrip("/")  # by _note
+    is_seen = ends and listed and os.path.realpath(folder) == os.path.join(os.path.realpath(way), front).rstrip("/")  # by note
     return listed if not ends or _noted.setdefault((folder, ends), hash(NONE if is_seen else listed)) == hash(listed) else None
 
 
 @functools.lru_cache(maxsize=None)
-def _note(way: Optional[str], ends: tuple[str, ...]) -> None:
-    """Notes what lies in a folder of the operator's, and in those in it, before the first is read."""
+def note(way: Optional[str], ends: tuple[str, ...]) -> None:
+    """Notes what lies in a folder of the operator's, and in those in it, before the first is read: what has one of some endings."""
     waiting = [(os.path.join(way, ""), 0)] if way is not None and ends else []
     while waiting:
         outer, depth = waiting.pop()
@@ -275,7 +275,7 @@ def _folder(prefix: str, real: str, front: str, listed: Listed, places: Places) 
     apart = [place != real and not (os.path.exists(place) and os.path.realpath(place) == os.path.realpath(real)) for place in (held_in, told_in)]
     ends = HELD if apart[0] and not places.is_written else (), TOLD if apart[1] else ()
     for way, of in zip(places[:2], ends):
-        _note(way, of)
+        note(way, of)
     beside = frozenset() if places.is_untrusted else listed
     held = beside if places.certificates is None else _listed(places.certificates, front, ends[0])
     told = _names(beside if places.givens is None else _listed(places.givens, front, ends[1]), not places.is_site)
@@ -312,7 +312,7 @@ def begin(*ways: Optional[str]) -> None:
     """Forgets what lay in folders, and notes where the operator's are."""
     _noted.clear()
     _meant[:] = [(way, os.path.realpath(way)) for way in ways if way is not None]
-    for forget in (_listed.cache_clear, _note.cache_clear, _folder.cache_clear, pictures_in.cache_clear):
+    for forget in (_listed.cache_clear, note.cache_clear, _folder.cache_clear, pictures_in.cache_clear):
         forget()
 
 
