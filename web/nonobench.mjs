@@ -347,7 +347,7 @@ class Engine {
     }
   }
 
-  // Runs a call with bytes that are lent to it.
+  // Runs a call with inputs that are lent to it, each as {at, size}, and answers what it does.
   #lend(inputs, call) {
     const lent = [];
     try {

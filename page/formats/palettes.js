@@ -23,7 +23,7 @@ export class PaletteFault extends FileFault {
 const linesOf = (text) => text.replace(/^\ufeff/, '').split(/\r\n|\r|\n/);
 const hexLine = /^#?([0-9a-f]{6})$/i;
 
-/** What a text is: 'gpl', 'pal', 'hex' or null. A .hex has no mark: each of its lines is a colour. */
+/** What a text is: 'gpl', 'pal', 'hex' or null. A .hex has no mark: it has colours, comments and blank lines alone. */
 export function kindOfPalette(text) {
   const [first] = linesOf(text.slice(0, 80));
   if (first.trim() === 'GIMP Palette') return 'gpl';
@@ -62,6 +62,7 @@ function readPal(lines) {
   return { name: '', colours };
 }
 
+// Lines that are no colours are left out; none is refused.
 function readHex(lines) {
   const digits = lines.map((line) => hexLine.exec(line.trim())?.[1]).filter(Boolean);
   return { name: '', colours: digits.map((one) => ({ triple: [0, 2, 4].map((at) => parseInt(one.slice(at, at + 2), 16)), name: '' })) };

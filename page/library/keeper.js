@@ -9,11 +9,11 @@ const RECORD = 'work:';
 const CARD = 'card:';
 const REST = 50; // milliseconds between a stroke and its record: it is drawn first, and of quick strokes the last one counts
 
-/** Keeps records on a shelf: of each document the last one, one write at a time. */
+/** Keeps records on a shelf: of each document the last one, one write at a time. `said` hears {kind: 'kept' | 'failed', why, record}. */
 export class Keeper {
   constructor(shelf, said) {
     this.shelf = shelf;
-    this.said = said; // called with {kind: 'kept' | 'failed', why, record}
+    this.said = said;
     this.waiting = null;
     this.made = []; // what was made before its turn
     this.writing = null;

@@ -1,6 +1,7 @@
 """Images as a browser shows them: the pixels of a file, or why it is refused. docs/FORMATS.md has the rules.
 
-A file is looked at here as a whole. Pillow unpacks the pixels of PNG, GIF and WebP, and is handed nothing else of it.
+A file is looked at here as a whole: whatever a reader raises besides ImageFault is damage. Pillow only unpacks the pixels of PNG,
+GIF and WebP.
 """
 
 from __future__ import annotations

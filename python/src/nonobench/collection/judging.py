@@ -34,7 +34,7 @@ class Desk:
         return assessment_of(self._text(self._desk.assess(puzzle.text, False, puzzle.word(), puzzle.published, certificate, most)))
 
     def certify(self, puzzle: Puzzle, said: Assessment) -> str:
-        """A certificate of a puzzle that has one solution.
+        """A certificate of a `painted` puzzle with one solution. Raises MemoryError.
 
         It has lemmas, which make it short, where the puzzle needs guesses and has no givens. Where none such is found, it is a tree.
         """
