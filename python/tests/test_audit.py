@@ -1352,7 +1352,7 @@ class Again(Case):
         self.assertEqual(list(self.read("rows.jsonl")), ["site/one.ppm", "site/three.ppm"])
 
     def test_rows_below_a_folder_that_cannot_be_listed_stay(self):
-        """So that they are not made again once it can be; also those of a share that the folder itself is not in."""
+        """So that they are not made again once it can be; also those of a share that the folder itself is not in. No others stay."""
         for name in ("in.ppm", "other.ppm", *(f"in/{at}.ppm" for at in range(9))):
             self.put(name, p3(UNIQUE))
         search, place = finding.searched, self.folder / "rows.jsonl"
@@ -1363,19 +1363,29 @@ class Again(Case):
             return search(folder, depth)
 
         for more in ([], ["--shard", "1/2"], ["--shard", "2/2"]):
-            words = ["site", "--allow", "9", "--jsonl", "rows.jsonl", *more]
+            words = ["site", "--allow", "9", "--jsonl", "rows.jsonl", "--quiet", *more]
+            self.put("gone.ppm", p3(UNIQUE))
             self.run_audit(*words, status=0)
-            before = place.read_bytes()
-            within = before.count(b'"site/in/')
-            self.assertGreater(within, 0)
+            before = self.read("rows.jsonl")
+            gone = before.pop("site/gone.ppm", None)
+            within = [name for name in before if name.startswith("site/in/")]
+            self.assertGreater(len(within), 0)
+            (self.site / "gone.ppm").unlink()
+            self.put("other.ppm", p3(AMBIGUOUS))
             with unittest.mock.patch.object(finding, "searched", searched):
                 status, said = in_process(self.folder, *words, "--resume", "--jobs", "1")
             why = "of its rows stay as they were, of files below a folder that cannot be listed"
-            self.assertIn(f"nonobench-audit: rows.jsonl: {within} {why}\n", said)
-            self.assertEqual(status, 3)
-            self.assertTrue(place.read_bytes().startswith(before))
-            self.run_audit(*words, "--resume", status=0)
-            self.assertEqual(place.read_bytes(), before)
+            left = "nonobench-audit: rows left out, of files that are not among these: 1\n" if gone else ""
+            self.assertEqual((status, said), (3, f"nonobench-audit: rows.jsonl: {len(within)} {why}\n{left}"))
+            after = self.read("rows.jsonl")
+            self.assertEqual(len(place.read_bytes().splitlines()), len(after))
+            self.assertEqual(after.keys() - {"site/in"}, before.keys())
+            self.assertEqual([name for name in after if before.get(name) == after[name]][-len(within):], within)
+            self.assertEqual(after.get("site/other.ppm", {}).get("verdict"), "ambiguous" if "site/other.ppm" in before else None)
+            self.put("other.ppm", p3(UNIQUE))
+            # What was said of the folder is no row of a file.
+            self.assertEqual(self.run_audit(*words, "--resume", status=0).stderr, "")
+            self.assertEqual(list(self.read("rows.jsonl").items()), list(before.items()))
 
     def test_rows_in_order_keep_their_file(self):
         """Its mode, and the link to it."""

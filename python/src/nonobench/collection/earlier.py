@@ -51,14 +51,18 @@ class Earlier:
                 return found
         return []
 
-    def left(self, folders: set[str]) -> tuple[int, int]:
-        """How many rows nobody asked for, of files below folders; or else of others."""
-        within = 0
-        for place, _ in self._places.values() if folders else ():
+    def left(self, folders: set[str]) -> tuple[list[int], int]:
+        """Where the rows are that nobody asked for, of files below folders; and how many others there are, of files and not of folders."""
+        within, others = [], 0
+        for place, _ in self._places.values():
             self._lines.seek(place)
             front = _FRONT.match(self._lines.readline(MOST_FRONT))
-            within += front is not None and not folders.isdisjoint(map(str, Path(row_of(front[1])).parents))
-        return within, 0 if within else len(self._places)
+            file = row_of(front[1]) if front else ""
+            if not folders.isdisjoint(map(str, Path(file).parents)):
+                within.append(place)
+            elif not os.path.isdir(file):
+                others += 1
+        return within, others
 
     def row(self, place: int) -> Row:
         """The row at a place, which was read before."""

@@ -273,9 +273,9 @@ class Run:
         failures += [Failure(f"{folder}: {CHANGED}") for folder in (changed() if is_whole else ())]
         if is_whole and not is_none and self._lines is not None and self._earlier is not None:
             unlisted, self._left = self._earlier.left(self._unlisted)
-            if unlisted:
-                self._lines.has_places = False
-                failures.append(Failure(f"{options.jsonl}: {unlisted} {UNLISTED}"))
+            for place in unlisted:  # behind all others
+                self._lines.keep(place)
+            failures += [Failure(f"{options.jsonl}: {len(unlisted)} {UNLISTED}")] if unlisted else []
         failures += self._close(is_whole and not is_none)
         self._progress.close()
         for words in dict.fromkeys(map(str, failures)):
