@@ -6,6 +6,7 @@ Pictures and what is expected of them are worked by hand. Pillow, defusedxml and
 import contextlib
 import csv
 import errno
+import gc
 import hashlib
 import io
 import json
@@ -17,6 +18,7 @@ import time
 import types
 import unittest
 import unittest.mock
+import warnings
 from collections import deque
 from pathlib import Path
 
@@ -1386,6 +1388,17 @@ class Again(Case):
             # What was said of the folder is no row of a file.
             self.assertEqual(self.run_audit(*words, "--resume", status=0).stderr, "")
             self.assertEqual(list(self.read("rows.jsonl").items()), list(before.items()))
+
+    def test_resume_closes_the_rows_that_it_reads(self):
+        self.put("one.ppm", p3(UNIQUE))
+        words = ["site", "--allow", "9", "--jsonl", "rows.jsonl", "--resume", "--jobs", "1"]
+        gc.collect()
+        with warnings.catch_warnings(record=True) as told:
+            warnings.simplefilter("always", ResourceWarning)
+            for _ in range(2):
+                self.assertEqual(in_process(self.folder, *words)[0], 0)
+            gc.collect()
+        self.assertEqual([str(one.message) for one in told], [])
 
     def test_rows_in_order_keep_their_file(self):
         """Its mode, and the link to it."""

@@ -193,7 +193,7 @@ class Run:
             self._lines = Lines(options.jsonl, options.is_resumed, folders.get(options.jsonl))
             self._sinks.append(self._lines)
             if options.is_resumed:
-                self._earlier = Earlier(options.jsonl, self._lines.again())
+                self._earlier = Earlier(options.jsonl, self._stack.enter_context(self._lines.again()))
         if options.csv is not None:
             self._sinks.append(Sheet(options.csv, folders.get(options.csv)))
         if options.html is not None:
