@@ -29,6 +29,7 @@ from odd_images import BITS, FRAMES, GAMMA, SMALL, odd_images  # noqa: E402
 from processes import children, seen  # noqa: E402
 from test_audit import p3_of_letters  # noqa: E402
 
+from nonobench import _process  # noqa: E402
 from nonobench.collection import arguments, certificates, cluster, finding, outputs, readers, report, running, serving, workers  # noqa: E402
 from nonobench.collection.outputs import Failure, Output  # noqa: E402
 
@@ -1409,6 +1410,22 @@ class Processes(Case):
             self.assertEqual(running.main(words), 0)
         self.assertEqual({*statuses}, {0})
         self.assertEqual(len(os.listdir(out[0])), 2 * 60)
+
+    def test_what_a_process_was_writing_goes_with_it(self):
+        """A file that is not whole yet, whether the process ended alone or with the run."""
+        place, out = self.put("one.ppm", p3(UNIQUE)), self.folder / "out"
+        out.mkdir()
+        settings = running.settings_of(arguments.options_of([str(self.site), "--memory", "512"]))
+        begin = _process._START.replace("serve(int", "import os, time\nos.replace = lambda *_, **__: time.sleep(9999)\nserve(int")
+        for to, published in ((str(out / "one"), None), (None, str(out / "one"))):
+            task = serving.Task(0, "one.ppm", str(place), (), None, None, to, "", 1, serving.FULL, published)
+            with unittest.mock.patch.object(_process, "_START", begin), contextlib.closing(workers.Pool(settings, 1, None)) as pool:
+                answers = pool.answers(iter([task]))
+                first = eventually(lambda: next(answers) or os.listdir(out))
+                os.kill(pool._hands[0].pid, signal.SIGKILL)
+                second = eventually(lambda: next(answers) or {*os.listdir(out)}.difference(first))
+                self.assertEqual({*os.listdir(out)}, second)
+            self.assertEqual(os.listdir(out), [])
 
     def test_too_much_memory(self):
         self.put("a.ppm", p3(UNIQUE))

@@ -54,9 +54,7 @@ def row_of(status: int, text: str, said: str) -> Row:
 
 
 def lying(path: str, ending: str, is_shared: bool = True) -> Optional[str]:
-    """What lies beside a puzzle with an ending, and is called as for other systems. One that is called after the name without the
-    suffix may be shared with another puzzle of that name.
-    """
+    """What lies beside a puzzle with an ending, called as elsewhere; one called without the puzzle's suffix may be shared."""
     folder, name = os.path.split(os.path.abspath(path))
     stem, own = os.path.splitext(name)
 

@@ -117,9 +117,7 @@ class Child:
             self._out.clear()
 
     def answers(self) -> list[tuple[int, list[bytes]]]:
-        """The answers that have come whole, each a number and its parts. Raises EOFError where the process has ended, and MemoryError
-        where an answer would not fit into its memory.
-        """
+        """The answers that have come whole. Raises EOFError where the process has ended, MemoryError where one is too large."""
         try:
             data = self._stream.recv(ROOM)
         except BlockingIOError:

@@ -89,8 +89,7 @@ def publish(puzzle: Puzzle, name: str) -> str:
     if all(_lies(f"{name}.{ending}", data) for ending, data in parts.items()):
         return ""
     for ending in reversed(parts):
-        with contextlib.suppress(OSError, ValueError), opened(os.path.dirname(name)) as folder:
-            os.unlink(f"{os.path.basename(name)}.{ending}", dir_fd=folder)
+        remove(f"{name}.{ending}")
     return next(filter(None, (_put("picture", f"{name}.{ending}", data) for ending, data in parts.items() if data)), "")
 
 
@@ -129,20 +128,28 @@ def opened(path: str, is_made: bool = True) -> Iterator[int]:
         os.close(folder)
 
 
+def remove(path: str) -> None:
+    """Takes away a file, where it is there."""
+    with contextlib.suppress(OSError, ValueError), opened(os.path.dirname(path), False) as folder:
+        os.unlink(os.path.basename(path), dir_fd=folder)
+
+
 def new_name() -> str:
     """What a file is called until it is whole: a short name that nothing else has, on whichever machine."""
     return f".{os.urandom(12).hex()}.new"
 
 
+NEW = new_name()  # of what this process writes; who may end it sets it
+
+
 def _write(name: str, data: bytes, folder: int) -> None:
     """Puts a file in a folder, also in the place of another one, or leaves none."""
-    new = new_name()
-    with open(new, "xb", buffering=0, opener=functools.partial(os.open, mode=0o666, dir_fd=folder)) as file:
+    with open(NEW, "xb", buffering=0, opener=functools.partial(os.open, mode=0o666, dir_fd=folder)) as file:
         try:
             write_all(file.fileno(), data)
-            os.replace(new, name, src_dir_fd=folder, dst_dir_fd=folder)
-        except (OSError, ValueError):
-            os.unlink(new, dir_fd=folder)
+            os.replace(NEW, name, src_dir_fd=folder, dst_dir_fd=folder)
+        except BaseException:
+            os.unlink(NEW, dir_fd=folder)
             raise
 
 

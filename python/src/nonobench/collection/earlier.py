@@ -88,11 +88,9 @@ def content_before(rows: list[tuple[int, Row]], made: str, limit: str, to: Optio
     if len({row.get("content") for _, row in rows}) > 1:  # some are newer: a run was stopped within the file
         return ""
     for _, row in rows:
-        if row.get("made") != made or "note" in row or "missing" in row:
+        if row.get("made") != made or "note" in row or "missing" in row or row.get("error", "").startswith("out of memory"):
             return ""
         if (row["verdict"] == "undecided" or "unknown" in row) and row.get("limit") != limit:
-            return ""
-        if row.get("error", "").startswith("out of memory"):
             return ""
         if row["verdict"] == "unique" and not all(map(os.path.exists, written(to, published, row.get("puzzle", 1)))):
             return ""

@@ -320,8 +320,7 @@ def _found(folder: Folder, name: str) -> Found:
     stem = os.path.splitext(name)[0]
     called = stem if _is_own(folder, name) else name if name not in folder.taken else name + NO_NAME
     beside = [*folder.unlisted, *_certificates(folder, name, stem)]
-    # What is called after the whole name is that of the puzzle with this name and a suffix, where there is one. But strangers do not say
-    # whose files the operator's are.
+    # What is called after a whole name is of the puzzle with it and a suffix; but strangers do not say whose the operator's are.
     told, of = folder.told or NONE, stem if folder.stems[name] and not folder.is_apart else name
     ways = ([folder.told_in + called for called in called_beside(of, stem, end) if called in told] for end in TOLD)
     givens, background = (next(iter(way), None) for way in ways)

@@ -45,9 +45,7 @@ def ground_beside(held: bytes, whose: str) -> Ground:
 
 
 def bytes_of(path: str, whose: str = "", is_real: bool = True) -> bytes:
-    """The bytes of a file, which is told by words where it is not read. Pipes, devices and folders are none, and nothing waits for one.
-    A real path is absolute, and neither is a link nor leads through one.
-    """
+    """The bytes of a regular file, told by words where it is not read; nothing waits. A real path is absolute, without a link."""
     try:
         handle = os.open(path, os.O_NONBLOCK | os.O_CLOEXEC | (os.O_NOFOLLOW if is_real else 0))
         try:
@@ -111,9 +109,7 @@ def _puzzle_of_image(data: bytes, ground: Ground) -> Puzzle:
 
 
 def _only(puzzles: Iterator[Union[Puzzle, Unreadable]], why: str) -> Union[Puzzle, Unreadable]:
-    """The puzzle of a file that must have one: where its name does not tell that there may be several, the name of the second could be
-    that of another file; and of several nothing says which one a file of givens is for.
-    """
+    """The puzzle of a file that must have one: a second one's name could be a file's, and givens would be for either."""
     puzzle = next(puzzles)
     need(next(puzzles, None) is None, why)
     return puzzle

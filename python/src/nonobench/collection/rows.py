@@ -38,9 +38,7 @@ def judged_row(puzzle: Puzzle, said: Assessment) -> Row:
 
 
 def _shown(puzzle: Puzzle, cells: int) -> tuple[list[str], str]:
-    """The colours of a picture of so many cells as they are shown, its background first, and the letter of each cell: the order is
-    that of docs/FORMATS.md.
-    """
+    """The colours of a picture as shown, its background first, and the letter of each cell, in the order of docs/FORMATS.md."""
     _, _, most, raster = plain_words(puzzle.text[2:], 3)
     spots = raster.rstrip().split(b"\n", cells)  # mostly each cell has a line
     words = _words(spots)

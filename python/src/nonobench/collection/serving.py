@@ -47,6 +47,7 @@ class Settings(NamedTuple):
     has_times: bool
     is_inline: bool  # certificates go back, and are written where the run was begun
     is_untrusted: bool = False  # links are no files
+    new: str = ""  # what a process calls a file until it is whole
 
 
 class Task(NamedTuple):
@@ -84,6 +85,7 @@ def serve(memory: int) -> None:
     if settings is None:  # the run was stopped before it said so much
         return
     judging = Judging(Settings(*settings), answers)
+    certificates.NEW = Settings(*settings).new
     answers.put(0, "ready", "")
     answers.flush()  # before a file can end the process
     left = select.poll()
@@ -305,9 +307,7 @@ class Judging:
         self._answers.flush()
 
     def _make(self, task: Task, about: About, puzzle: Puzzle, beside: list[bytes]) -> None:
-        """Makes the row of a P3 text: verdict, grade and flaws, by a certificate that lies beside it where one is accepted. Where it has
-        one solution its picture and its certificate are written, if they have names.
-        """
+        """Makes a P3 text's row, by a certificate beside it where one is accepted. With one solution, what has names is written."""
         settings, number, is_glance = self._settings, about.front.get("puzzle", 1), task.mode == GLANCE
         name, published = (None if place is None else certificates.numbered_name(place, number) for place in (task.to, task.published))
         told, by = certificates.told(self._desk, puzzle, beside)

@@ -5,12 +5,14 @@ from __future__ import annotations
 import itertools
 import json
 import marshal
+import os
 import site
 import time
 from collections import deque
 from typing import Callable, Iterator, NamedTuple, Optional
 
 from .._process import Child, waited
+from .certificates import new_name, remove
 from .rows import Row, text_of, unfinished
 from .serving import FULL, GLANCE, Settings, Task, place_of
 
@@ -54,7 +56,15 @@ class Hand(Child):
         self.has_more: Optional[bool] = None  # whether others follow the puzzle of the first task's file; nothing before that is begun
         self.is_reading = False  # pieces of that file come, and then the puzzle is told when it is begun
         self.known: Optional[tuple[str, str]] = None  # the row of the puzzle whose certificate or grade is being made, and what goes with it
-        self.send(0, marshal.dumps(tuple(settings)))
+        self.new = new_name()
+        self.send(0, marshal.dumps(tuple(settings._replace(new=self.new))))
+
+    def status(self) -> int:
+        """Ends the process, and answers its status. What it was writing goes."""
+        status = super().status()
+        for way in {os.path.dirname(way) for task in self.tasks for way in (task.to, task.published) if way}:
+            remove(os.path.join(way, self.new))
+        return status
 
 
 class Pool:
@@ -96,7 +106,7 @@ class Pool:
     def close(self) -> None:
         """Ends the processes."""
         for hand in self._hands:
-            hand.end()
+            hand.status()
         self._hands.clear()
 
     def _feed(self) -> None:
