@@ -15,7 +15,7 @@ import pytest
 from tried import EXAMPLES, ROOT, VERSION, clean, dumped, ended, engine_now, named, needs, node_tests, passes, version_of
 
 pytestmark = pytest.mark.all
-TRIALS = ROOT / 'packages' / 'trials'
+TRIALS = ROOT / 'tests' / 'packages' / 'trials'
 MOST_PACKED = 12 << 20
 MOST_PROGRAM = 3 << 19
 

@@ -68,7 +68,7 @@ def test_wheel_in_python(system, made, tmp_path):
     if not root:
         pytest.skip('there is no Python for arm64, which a folder ARM64_ROOT has')
     passes([sys.executable, '-m', 'zipfile', '-e', named(made, '*_aarch64.whl'), tmp_path])
-    shutil.copy(ROOT / 'packages' / 'trials' / 'ask.py', tmp_path)
+    shutil.copy(ROOT / 'tests' / 'packages' / 'trials' / 'ask.py', tmp_path)
     pair = [EXAMPLES / f'given.{kind}' for kind in ('ppm', 'cert')]
     alone = ['qemu-aarch64', '-L', root, '-U', 'NONOBENCH_LIBRARY', '-U', 'PYTHONPATH']
     python = [*alone, f'{root}/usr/bin/python3.11', tmp_path / 'ask.py', *pair]

@@ -1,6 +1,6 @@
 // The site in headless Chromium, as a new user meets it: the empty list, the form, what is refused, what is stored and listed,
-// the page that is printed, and PNG images. It starts the site itself, with a database of its own. It is no part of the gate,
-// which has no browser. Usage: [PYTHON=python3] node examples/site/browser.mjs [FOLDER], where FOLDER gets pictures of the pages.
+// the page that is printed, and PNG images. It starts the site itself, with a database of its own. It is a test that is no part of the gate,
+// which has no browser. Usage: [PYTHON=python3] node examples/site/test_browser.mjs [FOLDER], where FOLDER gets pictures of the pages.
 import assert from 'node:assert/strict';
 import { spawn } from 'node:child_process';
 import { mkdirSync, mkdtempSync, rmSync, writeFileSync } from 'node:fs';
