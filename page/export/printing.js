@@ -19,7 +19,7 @@ import { gradeAtHand } from '../view/grading.js';
 import { eachInTurn, withProgress } from '../view/progress.js';
 import { asSeen } from '../view/tools.js';
 import { SHEET_TEXTS, entryOf } from './entries.js';
-import { GRIDS, PAPERS, isLarge, makersOf, partsOf } from './sheets.js';
+import { GRIDS, MOST_SHEETS, PAPERS, isLarge, makersOf, partsOf } from './sheets.js';
 
 const PAPER_NAMES = { a4: 'A4', a5: 'A5', letter: phrase('export.usLetter'), book: phrase('export.sixByNine') };
 const SHOWN = { colours: phrase('view.colours'), letters: phrase('export.letters'), signs: phrase('export.signs') };
@@ -58,13 +58,16 @@ function setPaper({ width, height }) {
   page.rule = style.insertRule(`@page { size: ${width}mm ${height}mm; margin: 0; }`, style.cssRules.length);
 }
 
+// A sheet as a part of the page that is printed.
+function printedOf({ svg, width, height }) {
+  const drawing = new DOMParser().parseFromString(svg, 'image/svg+xml').documentElement;
+  return { width, height, part: make('section', { class: 'printed' }, document.importNode(drawing, true)) };
+}
+
 /** Fills the part of the page that is printed. */
 function fillPrint(sheets) {
   setPaper(sheets[0]);
-  $('print').replaceChildren(...sheets.map(({ svg }) => {
-    const drawing = new DOMParser().parseFromString(svg, 'image/svg+xml').documentElement;
-    return make('section', { class: 'printed' }, document.importNode(drawing, true));
-  }));
+  $('print').replaceChildren(...sheets.map(({ part }) => part));
 }
 
 function saveSvg(name, sheets, isZip) {
@@ -173,34 +176,36 @@ const printPuzzle = () => asSeen(async (seen) => {
   const others = libraryPart(await otherCards());
   const notes = make('div', { id: 'print-notes', role: 'status' });
   const svgName = make('span');
-  const isZip = (sheets) => sheets.length > 1 || others.chosen().length > 0;
   const titled = () => ({ ...own, doc: { ...own.doc, about: { ...own.doc.about, title: fields.title.value.trim() } } });
+  const count = () => makersOf([own, ...others.chosen()].sort(byName), readFields(fields)).length;
+  const isZip = () => count() > 1 || others.chosen().length > 0;
+  const tooMany = () => (count() > MOST_SHEETS ? phrase('export.mostSheets', { sheets: count(), most: MOST_SHEETS }) : '');
   let turn = 0;
   const showNotes = async () => {
     const ownTurn = ++turn;
+    svgName.textContent = isZip() ? phrase('export.saveSvgs') : phrase('export.saveSvg');
+    if (tooMany()) return notes.replaceChildren(make('p', { class: 'wrong' }, tooMany()));
     const [options, puzzles] = [readFields(fields), await foreseen(titled(), others.chosen())];
     const goesOn = async () => {
       await new Promise((go) => setTimeout(go));
       return ownTurn === turn;
     };
     const sheets = await sheetsInTurn(puzzles, options, { goesOn }, ({ cell }) => ({ cell }));
-    if (!sheets) return;
-    notes.replaceChildren(...notesOn(puzzles, sheets, options));
-    svgName.textContent = isZip(sheets) ? phrase('export.saveSvgs') : phrase('export.saveSvg');
+    if (sheets) notes.replaceChildren(...notesOn(puzzles, sheets, options));
   };
   const content = make('div', { onchange: showNotes }, make('div', { class: 'rows' }, ...rows, others.part), notes);
   await showNotes();
-  const way = await openDialog({ title: phrase('export.print'), content, wide: true, buttons: [{ name: svgName, value: 'svg' }, { name: opening(phrase('export.print')), value: 'print', main: true }] });
+  const way = await openDialog({ title: phrase('export.print'), content, wide: true, buttons: [{ name: svgName, value: 'svg', test: tooMany }, { name: opening(phrase('export.print')), value: 'print', main: true, test: tooMany }] });
   turn++;
   if (!way) return;
   const options = readFields(fields);
   Object.assign(chosen, options, (bench.term !== seen.term || options.show === shownFirst(near)) && { show: chosen.show }); // what was only proposed is not chosen
   const sheets = await withProgress(phrase('export.print'), async (progress) => {
     const opened = await openedOf(others.chosen(), options, progress);
-    return opened && sheetsInTurn([titled(), ...opened].sort(byName), options, progress);
+    return opened && sheetsInTurn([titled(), ...opened].sort(byName), options, progress, way === 'print' ? printedOf : undefined);
   });
   if (!sheets) return;
-  if (way === 'svg') return saveSvg(own.name, sheets, isZip(sheets));
+  if (way === 'svg') return saveSvg(own.name, sheets, isZip());
   fillPrint(sheets);
   globalThis.print();
 });
@@ -211,7 +216,7 @@ export function startPrinting() {
   on('opened', () => { chosen.show = USUAL.show; });
   // What is opened by the browser's own print, without the dialog, is a sheet too.
   addEventListener('beforeprint', () => {
-    if (bench.state && !$('print').children.length) fillPrint(makersFor([puzzleOf(bench)], { ...chosen, show: shownFirst(nearText(bench.state)) }).map((makeSheet) => makeSheet()));
+    if (bench.state && !$('print').children.length) fillPrint(makersFor([puzzleOf(bench)], { ...chosen, show: shownFirst(nearText(bench.state)) }).map((makeSheet) => printedOf(makeSheet())));
   });
   addEventListener('afterprint', () => $('print').replaceChildren());
 }

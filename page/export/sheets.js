@@ -13,6 +13,8 @@ export const PAPERS = { a4: [210, 297], a5: [148, 210], letter: [215.9, 279.4], 
 export const GRIDS = { 1: [1, 1], 2: [1, 2], 4: [2, 2], 6: [2, 3] };
 /** From more rows or columns on a puzzle goes over several sheets. */
 export const MOST_LINES = 60;
+/** How many sheets are printed, or saved, at once. */
+export const MOST_SHEETS = 300;
 
 const MOST_CELL = 12; // millimetres
 const ANSWER_CELL = 5;
@@ -131,11 +133,15 @@ function largeSheets(entry, page, { show, texts }) {
   const parts = partsOf(entry.doc);
   const [room] = roomsOf(page, [1, 1]);
   const [head, side, small] = [24, 20, 3.2];
-  const legend = legendRows(entry.legend, room.width, small);
-  const free = room.height - head - legend.length * small * 1.5 - 3;
-  const sizes = parts.map((part) => sizeOfPaper(entry, { part, hasNumbers: true }));
-  const cell = Math.min(MOST_CELL, ...sizes.map((size) => Math.min(room.width / size.width, free / size.height)));
+  const layOut = () => {
+    const legend = legendRows(entry.legend, room.width, small);
+    const free = room.height - head - legend.length * small * 1.5 - 3;
+    const sizes = parts.map((part) => sizeOfPaper(entry, { part, hasNumbers: true }));
+    return { legend, sizes, cell: Math.min(MOST_CELL, ...sizes.map((size) => Math.min(room.width / size.width, free / size.height))) };
+  };
+  let laid = null; // as soon as one is drawn
   return parts.map((part, at) => (surface) => {
+    const { legend, sizes, cell } = (laid ??= layOut());
     const width = room.width - side - 4;
     let top = write(surface, linesOf(entry.title, { width, size: 5.2, most: 2 }), { x: room.x, y: room.y, size: 5, weight: 700 });
     if (at === 0) top = write(surface, linesOf(entry.facts, { width, size: small, most: 1 }), { x: room.x, y: top, size: small, ink: FAINT });
@@ -147,12 +153,11 @@ function largeSheets(entry, page, { show, texts }) {
   });
 }
 
-function puzzleSheets(entries, page, options) {
-  const grid = GRIDS[options.perSheet];
-  const rooms = roomsOf(page, grid);
-  const scale = options.perSheet === 1 ? 1 : 0.8;
-  const draw = (group) => (surface) => Math.min(...group.map((entry, at) => drawEntry(surface, entry, rooms[at], { show: options.show, scale })));
-  return groupsOf(entries, rooms.length).map(draw);
+// A sheet of some puzzles, which has room for them.
+function puzzleSheet(entries, page, { perSheet, show }) {
+  const rooms = roomsOf(page, GRIDS[perSheet]);
+  const scale = perSheet === 1 ? 1 : 0.8;
+  return (surface) => Math.min(...entries.map((entry, at) => drawEntry(surface, entry, rooms[at], { show, scale })));
 }
 
 // All solutions, small, in the order of the puzzles.
@@ -168,7 +173,7 @@ function answerSheets(entries, page, { show, texts }) {
 }
 
 /**
- * What makes the sheets of puzzles, a call for each: `{svg, width, height, cell}` in millimetres; `cell` is its smallest cell, null for solutions. An entry is {doc, clues, title, facts, legend}. `options`: `paper`,
+ * What makes the sheets of puzzles, a call for each: `{svg, width, height, cell}` in millimetres; `cell` is its smallest cell, null for solutions. An entry is {doc, clues, title, facts, legend}; until a sheet is made its `doc` is enough. `options`: `paper`,
  * one of PAPERS; `isWide` for landscape; `margin` in millimetres; `perSheet`, one of GRIDS; `show`, 'colours', 'letters' or 'signs';
  * `answers`, whether solutions follow; `texts` makes the texts of `part` of a large puzzle, of a `solution` and of the `foot` of a sheet.
  */
@@ -176,21 +181,13 @@ export function makersOf(entries, options) {
   const [narrow, long] = PAPERS[options.paper];
   const [width, height] = options.isWide ? [long, narrow] : [narrow, long];
   const page = { width, height, margin: options.margin };
-  const draws = [];
-  let waiting = [];
-  const flush = () => {
-    draws.push(...puzzleSheets(waiting, page, options));
-    waiting = [];
-  };
+  const groups = []; // of what is on a sheet, or one large puzzle
   for (const entry of entries) {
-    if (!isLarge(entry)) {
-      waiting.push(entry);
-      continue;
-    }
-    flush();
-    draws.push(...largeSheets(entry, page, options));
+    const last = groups.at(-1);
+    if (last && last.length < options.perSheet && ![entry, last[0]].some(isLarge)) last.push(entry);
+    else groups.push([entry]);
   }
-  flush();
+  const draws = groups.flatMap((group) => (isLarge(group[0]) ? largeSheets(group[0], page, options) : puzzleSheet(group, page, options)));
   if (options.answers) draws.push(...answerSheets(entries, page, options));
   return draws.map((draw, at) => () => {
     const surface = new SvgSurface();

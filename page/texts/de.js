@@ -754,6 +754,7 @@ export const DE = /** @type {const} */ ({
   'export.puzzlesSheet': 'Rätsel je Blatt',
   'export.coloursShown': 'Farben dargestellt durch',
   'export.goesOverSheetsMap': 'Es braucht {sheets|# Blatt|# Blätter}, jedes mit einer Übersicht der Blätter.',
+  'export.mostSheets': 'Das sind {sheets|# Blatt|# Blätter}; höchstens {most} werden auf einmal gedruckt oder gespeichert. Wählen Sie weniger Rätsel oder mehr davon je Blatt.',
   'export.soSheetLettersSigns': '{near} Darum hat das Blatt Buchstaben oder Zeichen.',
   'export.tintsAlike': 'Die Hinweise von {pair} sehen auf Papier ähnlich aus: „Buchstaben“ unterscheidet sie.',
   'export.print': 'Drucken',

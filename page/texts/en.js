@@ -754,6 +754,7 @@ export const EN = /** @type {const} */ ({
   'export.puzzlesSheet': 'Puzzles on a sheet',
   'export.coloursShown': 'Show colours as',
   'export.goesOverSheetsMap': 'It takes {sheets|# sheet|# sheets}, with a map of the sheets on each.',
+  'export.mostSheets': 'These are {sheets|# sheet|# sheets}; at most {most} are printed or saved at once. Choose fewer puzzles, or more of them on a sheet.',
   'export.soSheetLettersSigns': '{near} So the sheet has letters or symbols.',
   'export.tintsAlike': 'The clues of {pair} look alike on paper: “Letters” tells them apart.',
   'export.print': 'Print',

@@ -754,6 +754,7 @@ export const FR = /** @type {const} */ ({
   'export.puzzlesSheet': 'Grilles par feuille',
   'export.coloursShown': 'Montrer les couleurs par',
   'export.goesOverSheetsMap': 'Il faut {sheets|# feuille|# de feuilles|# feuilles}, avec un plan des feuilles sur chacune.',
+  'export.mostSheets': 'Il y a {sheets|# feuille|# de feuilles|# feuilles} ; au plus {most} s’impriment ou s’enregistrent à la fois. Choisissez moins de grilles, ou plus de grilles par feuille.',
   'export.soSheetLettersSigns': '{near} La feuille a donc des lettres ou des symboles.',
   'export.tintsAlike': 'Les indices de {pair} se ressemblent sur papier : « Lettres » les distingue.',
   'export.print': 'Imprimer',

@@ -34,6 +34,7 @@ export function openDialog({ title, content = '', buttons = [{ name: 'OK', value
       const main = buttons.find((button) => button.main);
       if (main) press(main);
     });
+    form.addEventListener('input', () => { wrong.textContent = ''; }); // it was said of what is changed now
     dialog.addEventListener('close', () => {
       dialog.remove();
       resolve(chosen);

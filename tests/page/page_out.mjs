@@ -600,6 +600,45 @@ export async function printNotes({ browser, url, folder }) {
     }
 }
 
+/** More sheets than are printed at once are told before that, and the dialog stays; with more puzzles on a sheet it goes on. */
+export async function sheetsBound({ browser, url, folder }) {
+    const { page } = await fresh(browser, url, folder, 'bound');
+    await clean(page);
+    await page.run(() => openDoc({ rows: 2, columns: 2, maxval: 255, colours: [[255, 255, 255], [0, 0, 0]], picture: ['aa', 'a.'], givens: new Set() }, { name: 'own', isSaved: false }));
+    await isKept(page);
+    await page.run(async () => {
+        const { record, card } = await keep.keeper.entry(keep.id);
+        await keep.keeper.shelf.putAll(Array.from({ length: 299 }, (_, at) => [['work', record], ['card', card]].map(([kind, value]) => [`${kind}:more${at}`, { ...value, id: `more${at}` }])).flat());
+        window.print = () => { window.isPrinted = true; };
+        runAction('print');
+    });
+    await page.until(() => document.querySelector('#print-all')?.closest('dialog[open]'), 5000 * SLACK);
+    const change = (...ids) => page.run((fields) => {
+        for (const [id, value] of fields) {
+            const field = document.getElementById(id);
+            if (typeof value === 'boolean') field.checked = value;
+            else field.value = value;
+            for (const kind of ['input', 'change']) field.dispatchEvent(new Event(kind, { bubbles: true }));
+        }
+    }, ids);
+    const wrong = () => [...document.querySelectorAll('dialog[open] p.wrong')].map((one) => one.textContent).find((text) => text.startsWith('These are 350 sheets; at most 300 are printed or saved at once.'));
+    await change(['print-all', true]);
+    await page.until(wrong, 5000 * SLACK); // and 50 of solutions, six on each
+    for (const button of ['2)', '3)']) {
+        await page.click(`dialog .buttons button:nth-child(${button}`);
+        await page.until(() => document.querySelector('dialog[open] p.wrong[role=alert]').textContent.startsWith('These are 350'), 3000 * SLACK);
+    }
+    await change(['print-answers', false]);
+    await page.until(() => document.getElementById('print-small'), 20000 * SLACK);
+    assert.equal(await page.run(wrong), undefined, 'the last that are not too many: 300');
+    await change(['print-answers', true], ['print-count', '6']);
+    await page.click('dialog button.main');
+    await page.until(() => window.isPrinted, 20000 * SLACK);
+    assert.equal(await page.run(() => document.querySelectorAll('.printed').length), 100);
+    assert.deepEqual(page.faults, []);
+    await page.close();
+}
+
 /** Who asks for a certificate of a picture with a second solution is told so, with what mends it, also where the search for it finds that; the next stroke takes it back. */
 export async function noCertificateOfTwo({ browser, url, folder }) {
     const { page, trial } = await fresh(browser, url, folder, 'two');

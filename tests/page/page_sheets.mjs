@@ -35,6 +35,13 @@ test('sheets are made one after the other, as long as that goes on, and only wha
     assert.deepEqual([first > 0, others.map((cell) => cell === first)], [true, [true, true, true, true]]);
 });
 
+test('how many sheets there are is known of the pictures alone', () => {
+    const [small, large] = [docOf(['a'], BLACK), docOf(Array(61).fill('a'.repeat(120)), BLACK)]; // the large one on four
+    const count = (docs, more) => makersOf(docs.map((doc) => ({ doc })), options(more)).length;
+    assert.deepEqual([count([small, small, small]), count([small, small, small], { perSheet: 2 }), count([small, large, small], { perSheet: 2 }), count([large, large, small, small], { perSheet: 4 })], [3, 2, 6, 9]);
+    assert.deepEqual([1, 4, 5, 6, 7].map((all) => count(Array(all).fill(small), { perSheet: 6, answers: true })), [2, 2, 2, 2, 4]);
+});
+
 test('two colours: black digits on white, and no boxes', () => {
     const [sheet] = sheets([CROSS]);
     assert.deepEqual(digitsOf(sheet), ['1', '3', '1', '1', '3', '1'], 'rows, then columns');
