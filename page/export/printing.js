@@ -59,10 +59,8 @@ function setPaper({ width, height }) {
 }
 
 // A sheet as a part of the page that is printed.
-function printedOf({ svg, width, height }) {
-  const drawing = new DOMParser().parseFromString(svg, 'image/svg+xml').documentElement;
-  return { width, height, part: make('section', { class: 'printed' }, document.importNode(drawing, true)) };
-}
+const drawingOf = (svg) => document.importNode(new DOMParser().parseFromString(svg, 'image/svg+xml').documentElement, true);
+const printedOf = ({ svg, width, height }) => ({ width, height, part: make('section', { class: 'printed' }, drawingOf(svg)) });
 
 /** Fills the part of the page that is printed. */
 function fillPrint(sheets) {

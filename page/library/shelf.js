@@ -14,24 +14,29 @@ const settledRequest = (request) => new Promise((resolve, reject) => {
 // `put` and `putAll` are changes that ask for no value.
 const withPuts = (shelf) => Object.assign(shelf, { put: (key, value) => shelf.change([], () => [[key, value]]), putAll: (entries) => shelf.change([], () => entries) });
 
-// `blocked` is called where the database may open late.
+// What was closed under the page is opened again at the next need. `blocked` is called where the database may open late.
 async function indexedShelf(home, blocked) {
-  const request = home.indexedDB.open(SHELF_NAME, 1);
-  request.onupgradeneeded = () => request.result.createObjectStore('kept');
-  request.onblocked = blocked;
-  const database = await settledRequest(request);
-  database.onversionchange = () => database.close();
-  const store = (mode) => database.transaction('kept', mode).objectStore('kept');
+  let opened = null;
+  const open = async () => {
+    const request = home.indexedDB.open(SHELF_NAME, 1);
+    request.onupgradeneeded = () => request.result.createObjectStore('kept');
+    request.onblocked = blocked;
+    const database = await settledRequest(request);
+    return Object.assign(database, { onclose: () => { opened = null; }, onversionchange: () => { database.close(); opened = null; } });
+  };
+  const ready = () => (opened ??= open().catch((fault) => { opened = null; throw fault; }));
+  await ready();
+  const read = async (ask) => settledRequest(ask((await ready()).transaction('kept', 'readonly').objectStore('kept')));
   // A write is kept once its transaction is complete.
-  const write = (act) => new Promise((resolve, reject) => {
+  const write = (act) => ready().then((database) => new Promise((resolve, reject) => {
     const transaction = database.transaction('kept', 'readwrite', { durability: 'relaxed' });
     transaction.oncomplete = () => resolve();
     transaction.onabort = transaction.onerror = () => reject(transaction.error ?? new Error('not kept'));
     act(transaction.objectStore('kept'));
-  });
+  }));
   return withPuts({
     lasts: true,
-    get: (key) => settledRequest(store('readonly').get(key)),
+    get: (key) => read((kept) => kept.get(key)),
     change: (keys, f) => write((kept) => {
       const asked = keys.map((key) => kept.get(key));
       const put = () => { for (const [key, value] of f(asked.map((one) => one.result))) kept.put(value, key); };
@@ -39,7 +44,7 @@ async function indexedShelf(home, blocked) {
       else put();
     }),
     drop: (...keys) => write((kept) => { for (const key of keys) kept.delete(key); }),
-    keys: () => settledRequest(store('readonly').getAllKeys()),
+    keys: () => read((kept) => kept.getAllKeys()),
   });
 }
 

@@ -293,7 +293,8 @@ test('which shelf is opened', async () => {
 
 // A browser's database that has some values, as far as a shelf asks for it: `requests` are those to open it. It `refuses` what is put.
 function databaseOf(kept, { requests = [], refuses = false } = {}) {
-    const transaction = () => {
+    const transaction = (from) => {
+        if (from.isClosed) throw new Error('The database connection is closing.');
         let waiting = 0;
         const one = { error: new Full('full'), objectStore: () => store };
         const ends = () => setTimeout(() => { if (!waiting) (refuses ? one.onabort : one.oncomplete)?.(); }, 1);
@@ -312,7 +313,8 @@ function databaseOf(kept, { requests = [], refuses = false } = {}) {
         ends();
         return one;
     };
-    return { requests, open() { requests.push({ result: { transaction } }); return requests.at(-1); } };
+    const result = () => ({ isClosed: false, close() { this.isClosed = true; }, transaction() { return transaction(this); } });
+    return { requests, open() { requests.push({ result: result() }); return requests.at(-1); } };
 }
 const opening = (database) => ({ open() { const request = database.open(); setTimeout(() => request.onsuccess(), 1); return request; } });
 const kept = async (keeper) => (await keeper.cards()).map(({ id, name, when, verdict }) => [id, name, when, verdict]);
@@ -350,6 +352,26 @@ test('a database that opens late takes over what was kept until then, also in me
         assert.deepEqual([await kept(keeper), database.size, localStorage?.length ?? 0], [[['c', 'tree', 4, null], ['b', 'tree', 3, null], ['a', 'tree', 1, null]], 6, 0]);
         assert.deepEqual([said, keeper.shelf.lasts], [[localStorage ? 'kept' : 'failed', 'kept', 'kept'], true]);
     }
+});
+
+test('a database that is closed under the page is opened again at the next need, also where that fails at first', async () => {
+    const [database, requests, said] = [entries(record('a', 1)), [], []];
+    const indexedDB = opening(databaseOf(database, { requests }));
+    const keeper = new Keeper(await openShelf({ localStorage: null, indexedDB }), ({ kind }) => said.push(kind));
+    const connection = () => requests.at(-1).result;
+    connection().onversionchange();
+    assert.equal(connection().isClosed, true, 'for who wants to delete it');
+    await Promise.all([keeper.put(record('b', 2)), keeper.put(record('c', 3))]);
+    assert.deepEqual([requests.length, said, (await kept(keeper)).map(([id]) => id)], [2, ['kept', 'kept'], ['c', 'b', 'a']]);
+    connection().close(); // by the browser
+    connection().onclose();
+    const { open } = indexedDB;
+    indexedDB.open = () => { const request = {}; setTimeout(() => request.onerror(), 1); return request; };
+    await keeper.put(record('d', 4));
+    assert.deepEqual([requests.length, said.at(-1), database.has('work:d')], [2, 'failed', false]);
+    indexedDB.open = open;
+    await keeper.put(record('d', 4));
+    assert.deepEqual([requests.length, said.at(-1), (await kept(keeper))[0][0]], [3, 'kept', 'd']);
 });
 
 // The browser's locks, as far as a claim asks for them.

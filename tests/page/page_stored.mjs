@@ -172,15 +172,20 @@ export async function toldFull({ browser, url, folder }) {
     await page.close();
 }
 
-/** A database that is closed under the page is told, and what needs no library goes on. */
+/** A database that is closed under the page is opened again; where it does not open that is told, and what needs no library goes on. */
 export async function closedDatabase({ page, trial }) {
     await clean(page);
     await page.click('#new-go');
     await isOpen(page);
     await page.run(() => new Promise((go, no) => { Object.assign(indexedDB.deleteDatabase('nonobench'), { onsuccess: () => go(), onerror: () => no() }); }));
+    await page.run(() => { window.own = IDBFactory.prototype.open; IDBFactory.prototype.open = () => { throw new Error('no'); }; });
     await trial.drag([[2, 2]]);
     await page.until(() => /storage does not take it/.test(document.getElementById('said').textContent), 5000 * SLACK);
     await page.run(() => runAction('print'));
     await page.until(() => document.querySelector('dialog[open] #print-notes'), 5000 * SLACK);
     await page.press('Escape');
+    await page.run(() => { IDBFactory.prototype.open = window.own; });
+    await trial.drag([[3, 3]]);
+    await page.until(() => keep.isKept && document.getElementById('said').textContent === '', 5000 * SLACK);
+    assert.equal(await page.run(async () => (await keep.keeper.cards()).length), 1);
 }
