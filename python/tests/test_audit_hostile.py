@@ -1427,6 +1427,17 @@ class Processes(Case):
                 self.assertEqual({*os.listdir(out)}, second)
             self.assertEqual(os.listdir(out), [])
 
+    def test_a_process_that_cannot_be_ended_is_not_waited_for(self):
+        """The system ends none while it reads from files that do not come."""
+        begin = _process._START.replace("serve(int", "import time\ntime.sleep(9999)\nserve(int")
+        with unittest.mock.patch.multiple(_process, _START=begin, ENDING=0.1, create=True):
+            hand = workers.Hand(running.settings_of(arguments.options_of([str(self.site)])))
+            self.addCleanup(hand._process.wait)
+            self.addCleanup(os.kill, hand.pid, signal.SIGKILL)
+            with unittest.mock.patch.object(hand._process, "kill"):
+                self.assertEqual(hand.status(), -signal.SIGKILL)
+        self.assertNotIn(seen(hand.pid).state, ("", "Z"))
+
     def test_too_much_memory(self):
         self.put("a.ppm", p3(UNIQUE))
         # Elements of some 500 bytes each, of a puzzle that has no end.

@@ -132,9 +132,7 @@ def _table(colours: bytes, entry: int = 3) -> list[Pixel]:
 
 
 def _need_plain_exif(exif: bytes, columns: int, rows: int) -> None:
-    """Refuses Exif with an orientation that turns a picture, or with another size, in which some browsers show it. The entries are
-    looked for at each place, even within another, in the order of bytes that its beginning tells.
-    """
+    """Refuses Exif that turns a picture or gives another size, as some browsers show it: looked for at each place, in its order."""
     orders = [order for sign, order in ((b"II", "<"), (b"MM", ">")) if sign in exif[:8]]
     for tag, number, reason in ((0x112, 1, TURNED), (0xA002, columns, SCALED), (0xA003, rows, SCALED)):
         for order in orders or "<>":

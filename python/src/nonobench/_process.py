@@ -3,6 +3,7 @@
 from __future__ import annotations
 
 import _thread
+import contextlib
 import itertools
 import os
 import selectors
@@ -15,8 +16,7 @@ from typing import Any, Callable, Iterable, TypeVar
 from ._library import FOLDER, PATH
 from ._serve import FRAME, framed
 
-# A process loads the modules that it needs from the package's folder, under the package's name: `-I` leaves out the current folder,
-# whose files are not trusted, and PYTHONPATH.
+# A process loads modules from the package's folder, under the package's name: `-I` leaves out PYTHONPATH and the current folder.
 _START = """import importlib, sys
 package = sys.modules["nonobench"] = type(sys)("nonobench")
 package.__path__ = [sys.argv[1]]
@@ -27,6 +27,7 @@ serve(int(sys.argv[3]))"""
 # A write to a process that has ended is an error, and no signal.
 NO_SIGNAL = getattr(socket, "MSG_NOSIGNAL", 0)
 ROOM = 1 << 18  # bytes that are taken together
+ENDING = 2.0  # seconds for a process to end: one that reads from files that do not come cannot be ended
 
 Made = TypeVar("Made")
 
@@ -151,7 +152,7 @@ class Child:
     def status(self) -> int:
         """Ends the process, and answers its status."""
         self.end()
-        return self._process.wait()
+        return -9 if self._process.poll() is None else self._process.returncode
 
 
 def waited(children: Iterable[Child], seconds: float) -> list[Any]:
@@ -170,8 +171,9 @@ def _end(process: subprocess.Popen[bytes], stream: socket.socket, owner: int) ->
     """Ends a process. In a child that was forked, this closes the child's end of the stream, and the process goes on."""
 
     def end() -> None:
-        with process:
-            process.kill()
+        process.kill()
+        with process.stdout or contextlib.nullcontext(), contextlib.suppress(subprocess.TimeoutExpired):
+            process.wait(ENDING)
 
     if os.getpid() == owner:
         uninterrupted(end)
