@@ -688,7 +688,7 @@ class Running(Case):
 
     def test_what_stays_of_a_puzzle_that_is_not_unique_is_told(self):
         """A kept row tells it, too; the puzzle's own certificate, which is read, is none of that."""
-        out, stays = os.path.realpath(self.folder) + "/out", "it stays, though the puzzle is not unique\n"
+        out, stays = os.path.realpath(self.folder) + "/out", "it stays, though the puzzle was not found unique\n"
         self.put("set.xml", "<puzzleset>" + webpbn(UNIQUE) * 2 + "</puzzleset>")
         self.put("one.ppm", p3(UNIQUE))
         words = ["site", "--allow", "9", "--jsonl", "rows", "--resume", "--quiet"]
@@ -697,8 +697,13 @@ class Running(Case):
         self.put("set.xml", "<puzzleset>" + webpbn(UNIQUE) + webpbn(AMBIGUOUS) + "</puzzleset>")
         for _ in range(2):
             said = self.run_audit(*words, "--certify", "out", "--ppm", "out", status=1).stderr
-            self.assertEqual(said, f"nonobench-audit: {out}/one.cert and 1 more: {stays}")
+            self.assertEqual(said, f"nonobench-audit: {out}/one.cert and 3 more: {stays}")
         self.assertEqual(self.run_audit(*words, "--ppm", "out", status=1).stderr, f"nonobench-audit: {out}/one.ppm and 1 more: {stays}")
+        # Of what is no puzzle now, it is not known whether it is unique.
+        self.put("one.ppm", "P3")
+        said = self.run_audit("site/one.ppm", "--quiet", "--certify", "out", "--ppm", "out", status=3).stderr
+        self.assertEqual(said, f"nonobench-audit: {out}/one.cert and 1 more: {stays}")
+        self.put("one.ppm", p3(AMBIGUOUS))
         for name in ("one.cert", "set.2.cert"):
             self.put(name, CERT)
         self.assertEqual(self.run_audit(*words, "--certify", "site", status=1).stderr, "")

@@ -28,7 +28,7 @@ MOST_WAITING = 64 << 20  # bytes of rows that wait for one before them
 READ = 5.0  # seconds that who reads has for what is written when a run is stopped
 BEHIND = 1.0  # seconds after which rows that wait for one before them are in the file of rows
 
-OLD = "it stays, though the puzzle is not unique"
+OLD = "it stays, though the puzzle was not found unique"
 UNLISTED = "of its rows stay as they were, of files below a folder that cannot be listed"
 MIXED = "rows of some of its puzzles are missing, or of another run"
 
@@ -126,7 +126,7 @@ class Run:
         self._beside = 0  # how many certificates lie beside the puzzles
         self._unread: list[str] = []  # those of an older name that are not read
         self._lost: list[str] = []  # those of puzzles that their files do not have
-        self._old: list[str] = []  # what was written of puzzles that are not unique
+        self._old: list[str] = []  # what was written of puzzles that are not unique now
         self._left = 0  # rows of an earlier run that are left out
         self._unlisted: set[str] = set()  # folders that cannot be listed
         self._is_elsewhere = False  # whether other shares have files
@@ -372,7 +372,7 @@ class Run:
             self._lost += [path for of, path in kept.beside if of > number]
         if row["verdict"] != "unique":
             old = filter(os.path.lexists, certificates.written(kept.to, kept.published, number))
-            self._old += [path for path in old if path not in (os.path.realpath(beside) for _, beside in kept.beside)][:1]
+            self._old += [path for path in old if path not in (os.path.realpath(beside) for _, beside in kept.beside)]
         for sink in self._sinks:
             if sink is self._lines and place is not None:
                 self._lines.keep(place)
