@@ -719,6 +719,14 @@ class Running(Case):
         self.assertEqual(self.rows("site", *words, "--resume", status=1), {"site/one.ppm": other})
         self.assertEqual((self.folder / "out" / "one.ppm").read_bytes(), p3(UNIQUE))
 
+    def test_a_set_with_many_certificates_does_not_cost_their_square(self):
+        self.put("set.xml", "<puzzleset>" + webpbn(AMBIGUOUS) * 60 + "</puzzleset>")
+        for at in range(1, 61):
+            self.put(f"{certificates.numbered_name('set', at)}.cert", "")
+        with unittest.mock.patch.object(os.path, "realpath", side_effect=os.path.realpath) as asked:
+            self.assertEqual(in_process(self.folder, "site", "--allow", "9", "--jobs", "1", "--certify", "site"), (1, ""))
+        self.assertLess(asked.call_count, 600)
+
     def test_kept_rows_are_of_the_pictures_that_lie_there(self):
         self.put("one.ppm", p3(UNIQUE))
         self.put("two.ppm", p3(UNIQUE))

@@ -372,7 +372,7 @@ class Run:
             self._lost += [path for of, path in kept.beside if of > number]
         if row["verdict"] != "unique":
             old = filter(os.path.lexists, certificates.written(kept.to, kept.published, number))
-            self._old += [path for path in old if path not in (os.path.realpath(beside) for _, beside in kept.beside)]
+            self._old += [path for path in old if path not in (os.path.realpath(beside) for of, beside in kept.beside if of == number)]
         for sink in self._sinks:
             if sink is self._lines and place is not None:
                 self._lines.keep(place)
