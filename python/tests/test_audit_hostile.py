@@ -967,6 +967,40 @@ class Outputs(Case):
                 done = subprocess.run(self.words(*words), cwd=self.folder, env=self.env(), stdout=subprocess.DEVNULL, stderr=full)
                 self.assertEqual(done.returncode, status)
 
+    @contextlib.contextmanager
+    def told_to_a_full_pipe(self, script, *words, **streams):
+        """A script whose standard error takes no more, and the other end of that."""
+        ours, theirs = os.pipe()
+        os.write(theirs, bytes(fcntl.fcntl(theirs, fcntl.F_GETPIPE_SZ)))
+        words = [sys.executable, "-c", "import sys\n" + script, *words]
+        with open(ours, "rb") as said, subprocess.Popen(words, cwd=self.folder, env=self.env(), **{"stdout": theirs, "stderr": theirs, **streams}) as process:
+            os.close(theirs)
+            try:
+                yield process, said
+            finally:
+                process.kill()
+
+    def test_messages_that_nobody_reads(self):
+        """They are lost: the run goes on, and once it is stopped, all is whole."""
+        self.put("z.ppm", p3_of_letters(chequered(60, 4)))
+        script = "from nonobench.collection import progress, running\nprogress.EVERY = 0\nsys.exit(running.main())"
+        words = self.words("site", "--jobs", "1", "--jsonl", "rows", "--html", "report")[3:]
+        with self.told_to_a_full_pipe(script, *words, stdout=subprocess.DEVNULL) as (process, _):
+            eventually(lambda: (self.folder / "rows").exists() and len(self.read("rows")) == 2)
+            time.sleep(1)  # until it tells how far it is
+            process.send_signal(signal.SIGTERM)
+            self.assertEqual(process.wait(PATIENCE), 143)
+        self.assertEqual(len(self.read("rows")), 2)
+        self.assertIn("the run was stopped", (self.folder / "report").read_text())
+
+    def test_messages_where_rows_are_read(self):
+        """Their reader is waited for, and misses nothing."""
+        script = "from nonobench.collection import outputs\noutputs.hold_streams()\nprint('late', file=sys.stderr)"
+        with self.told_to_a_full_pipe(script) as (process, said):
+            with self.assertRaises(subprocess.TimeoutExpired):
+                process.wait(2)
+            self.assertEqual(said.read().lstrip(b"\0"), b"late\n")
+
     def test_a_summary_that_cannot_be_written(self):
         with open("/dev/full", "wb") as full:
             words = self.words("site/one.ppm", "--html", "report.html")

@@ -80,14 +80,25 @@ def hold_streams() -> None:
         sys.stderr = io.TextIOWrapper(messages, sys.stderr.encoding, "backslashreplace", line_buffering=True)
 
 
+def _wait(file: BinaryIO, until: float = math.inf) -> None:
+    """Waits until a pipe takes some bytes, PIPE_BUF or fewer, or nobody is waited for any longer who reads it."""
+    waiting = select.poll()
+    waiting.register(file, select.POLLOUT)
+    while not waiting.poll(1000 * MOMENT):
+        if time.monotonic() > min(until, Output.until):
+            raise TimeoutError(errno.ETIMEDOUT, "nobody reads it")
+
+
 class _Messages(io.FileIO):
-    """Standard error: what it does not take, as on a full disk, is lost, and changes no status."""
+    """Standard error: what it does not take, as on a full disk, is lost, and changes no status. So is what nobody reads within a moment,
+    unless standard output goes the same way: its reader is waited for.
+    """
 
     def write(self, data: Any) -> int:
-        try:
-            return super().write(data) or 0
-        except OSError:
-            return len(data)
+        with contextlib.suppress(OSError):
+            _wait(self, math.inf if os.path.samestat(os.fstat(1), os.fstat(2)) else 0.0)
+            return super().write(data[: select.PIPE_BUF]) or 0
+        return len(data)
 
 
 class Output:
@@ -151,11 +162,7 @@ class Output:
         """Writes some of the bytes: to what may have to wait for a reader, as many as it takes at once."""
         if is_regular(self.file):
             return self.file.write(data)
-        waiting = select.poll()
-        waiting.register(self.file, select.POLLOUT)
-        while not waiting.poll(1000 * MOMENT):
-            if time.monotonic() > Output.until:
-                raise TimeoutError(errno.ETIMEDOUT, "nobody reads it")
+        _wait(self.file)
         return self.file.write(data[: select.PIPE_BUF])
 
     def flush(self, is_hurried: bool = True) -> None:
