@@ -1175,6 +1175,14 @@ class Outputs(Case):
         self.assertIn("stopped after 1 puzzles", said.getvalue())
         self.assertEqual((self.folder / "rows").read_text(), text + "\n")
 
+    def test_a_signal_while_it_is_told_why_there_is_no_run(self):
+        for error, within, name in ((Failure("x"), running, "printable"), (RuntimeError("x"), running.traceback, "print_exc")):
+            fails = unittest.mock.patch.object(running, "options_of", side_effect=error)
+            tells = unittest.mock.patch.object(within, name, lambda *_: os.kill(os.getpid(), signal.SIGTERM))
+            with self.subTest(name), fails, tells, contextlib.redirect_stderr(io.StringIO()) as said:
+                self.assertEqual(running.main([]), 143)
+            self.assertEqual(said.getvalue(), "")
+
     def test_a_run_that_can_start_no_thread(self):
         """It goes on without the count of its files."""
         with unittest.mock.patch.object(running.threading, "Thread", side_effect=RuntimeError("can't start new thread")) as thread:

@@ -72,19 +72,19 @@ def main(words: Optional[list[str]] = None) -> int:
     """Runs nonobench-audit, and answers its status."""
     hold_streams()
     Stopped.is_held, Stopped.came, Output.until = False, 0, math.inf
-    for number in (signal.SIGINT, signal.SIGTERM):
-        signal.signal(number, _stop)
     try:
-        options = options_of(sys.argv[1:] if words is None else words)
-        return Run(options).merge() if options.is_merge else Run(options).audit()
-    except (Failure, Broken, OSError) as error:  # of the last ones none is known but of a machine that lacks something
-        print(f"nonobench-audit: {printable(str(error))}", file=sys.stderr)
+        for number in (signal.SIGINT, signal.SIGTERM):
+            signal.signal(number, _stop)
+        try:
+            options = options_of(sys.argv[1:] if words is None else words)
+            return Run(options).merge() if options.is_merge else Run(options).audit()
+        except (Failure, Broken, OSError) as error:  # of the last ones none is known but of a machine that lacks something
+            print(f"nonobench-audit: {printable(str(error))}", file=sys.stderr)
+        except Exception:  # 1 would say that puzzles are not fit
+            traceback.print_exc()
         return ERRORS
     except Stopped as error:
         return 128 + error.args[0]
-    except Exception:  # 1 would say that puzzles are not fit
-        traceback.print_exc()
-        return ERRORS
 
 
 def _stop(number: int, _frame: Any) -> None:
