@@ -98,7 +98,7 @@ STATED = [
     ('docs/ARCHITECTURE.md', 'or up to N splits if none is set', 1, [(BOUNDS, 'fixed_splits:')]),
     ('docs/ARCHITECTURE.md', 'once more, up to N splits', 1, [(BOUNDS, 'again_splits:')]),
     ('docs/ARCHITECTURE.md', 'searches with lemmas, up to N conflicts', 1, [(BOUNDS, r'window_splits: \d+,\n    conflicts:')]),
-    ('docs/RECIPES.md', 'Regular files alone are read, each of at most N MiB', MIB, [FILES]),
+    ('docs/RECIPES.md', 'Only regular files of at most N MiB are read', MIB, [FILES]),
     ('docs/RECIPES.md', 'Each puzzle has about N seconds', 1, [(AUDIT, r'seconds: Optional\[float\] =')]),
     ('docs/RECIPES.md', '(`--seconds`), and each process N MiB', 1, [(AUDIT, '"--memory".*default=')]),
     ('docs/RECIPES.md', '(`--memory`); a file has N times the seconds', 1, [('python/src/nonobench/collection/workers.py', 'MOST_TIMES =')]),
@@ -121,7 +121,7 @@ STATED = [
     ('python/README.md', 'a triple of numbers from 0 to N', 1, [('python/src/nonobench/_calls.py', 'NO_TRIPLE =.* to')]),
     ('examples/site/README.md', 'an image N by 120 pixels', 1, [IMAGE]),
     ('examples/site/README.md', 'N uploads are checked at once', 1, [(EXAMPLE, ' WORKERS=')]),
-    ('examples/site/README.md', 'Where more than N connections are open', 1, [(EXAMPLE, 'MOST_OPEN =')]),
+    ('examples/site/README.md', 'Above N connections one is closed', 1, [(EXAMPLE, 'MOST_OPEN =')]),
     # Twice the bytes of an upload.
     ('examples/site/README.md', 'A body of more than N MiB', MIB // 2, [(EXAMPLE, 'MAX_CONTENT_LENGTH=')]),
     ('examples/site/README.md', 'An upload has at most N MiB', MIB, [(EXAMPLE, 'MAX_CONTENT_LENGTH=')]),
