@@ -918,6 +918,30 @@ class Running(Case):
                 "file": "set.xml", "puzzle": start, "verdict": "error", "error": f"{why}: neither it nor those behind it are judged",
             })
 
+    def test_where_memory_ends_in_reading_a_set(self):
+        """The puzzles before have their rows, and what follows them is told by the number of the first one that has none."""
+        place, answers = self.put("set.xml", ""), Answers()
+
+        def read(pictures):
+            yield from map(Puzzle, pictures)
+            raise MemoryError
+
+        judge = serving.Judging(serving.Settings("", "", 1024, 99, "white", False, False), answers)
+        judge._leave = lambda _task: None
+        task = serving.Task(0, "set.xml", str(place), (), None, None, None, "", 1, serving.FULL)
+        content = serving._content(serving.files_of(task, judge._settings), hashlib.sha256(b"").hexdigest())
+        again = task._replace(before=content, kept=tuple((number, "{}", b"") for number in (1, 2, 3)))
+        both = p3(UNIQUE), p3(AMBIGUOUS)
+        later = [(both, task._replace(start=start), told) for start, told in ((2, [2, 3]), (3, [3]), (4, [4]))]
+        for pictures, asked, told in ((both, task, [1, 2, 3]), *later, ((), task._replace(start=3), [3]), (both, again, [1, 2, 3])):
+            answers.clear()
+            with self.subTest(told), unittest.mock.patch.object(readers, "puzzles_of", lambda *_: read(pictures)):
+                judge.answer(asked)
+                rows = [(words[1], json.loads(words[3])) for words in answers if words[1] in ("more", "last")]
+                self.assertEqual([row.get("puzzle") for _, row in rows], told)
+                self.assertEqual([kind for kind, _ in rows], ["more"] * (len(told) - 1) + ["last"])
+                self.assertEqual(rows[-1][1]["error"], "out of memory: more than 1024 MiB: neither it nor those behind it are judged")
+
     def test_no_puzzle_pays_for_the_time_of_others(self):
         """Each piece that is read, and each puzzle that is passed or checked again, is a sign of life; and none is to blame before it is begun."""
         place = self.put("set.xml", "<puzzleset>" + webpbn(UNIQUE) * 5 + "</puzzleset>")

@@ -1539,12 +1539,14 @@ class Processes(Case):
 
     def test_rows_of_a_set_that_is_not_judged_whole(self):
         """They are numbered, and merge takes them, whatever ended it."""
-        self.put("set.xml", "<puzzleset>" + webpbn(UNIQUE) * 2 + "<puzzle>" + "".join(f'<a{at} b="{at}"/>' for at in range(190_000)))
+        for name, before in (("one.xml", 1), ("two.xml", 2)):
+            self.put(name, "<puzzleset>" + webpbn(UNIQUE) * before + "<puzzle>" + "".join(f'<a{at} b="{at}"/>' for at in range(190_000)))
         self.put("z.ppm", p3(UNIQUE))
         self.run_audit("site", "--memory", "128", "--jobs", "1", "--jsonl", "rows", "--no-grade", status=3)
         rows = [json.loads(line) for line in (self.folder / "rows").read_text().splitlines()]
-        self.assertEqual([row.get("puzzle") for row in rows], [1, 2, None])
-        self.assertEqual(rows[1]["error"], "out of memory: more than 128 MiB: neither it nor those behind it are judged")
+        self.assertEqual([row.get("puzzle") for row in rows], [1, 2, 1, 2, 3, None])
+        out = "out of memory: more than 128 MiB: neither it nor those behind it are judged"
+        self.assertEqual([row.get("error") for row in rows], [None, out, None, None, out, None])
         self.run_audit("merge", "rows", "--jsonl", "joined", status=3)
         self.assertEqual((self.folder / "joined").read_bytes(), (self.folder / "rows").read_bytes())
         # A row without what it was judged by comes of a process that was ended. It hides no other run.

@@ -171,7 +171,7 @@ class Judging:
 
     def answer(self, task: Task) -> None:
         """Answers the puzzles of a file."""
-        self._front = {"file": task.name}
+        self._front = {"file": task.name, **place_of(task.start, False)}
         try:
             self._answer(task)
         except MemoryError:  # in reading it
@@ -204,18 +204,15 @@ class Judging:
             return
         number = 0
         for number, has_more, puzzle in self._numbered(task, files):
-            if number < task.start:
-                begun = time.perf_counter()
-                continue
-            place = place_of(number, has_more)
-            if place or task.before or self._is_in_pieces:
-                self._answers.put(task.number, "at", "", "more" if has_more else "")
-            front: Row = {"file": task.name, **place}
-            about = About(front, "more" if has_more else "last", content, sha256, begun)
-            self._judge(task, about, puzzle, files.of(number))
-            if task.mode == GLANCE:
-                return
-            self._front = {"file": task.name, "puzzle": number + 1}
+            if number >= task.start:
+                place = place_of(number, has_more)
+                if place or task.before or self._is_in_pieces:
+                    self._answers.put(task.number, "at", "", "more" if has_more else "")
+                about = About({"file": task.name, **place}, "more" if has_more else "last", content, sha256, begun)
+                self._judge(task, about, puzzle, files.of(number))
+                if task.mode == GLANCE:
+                    return
+            self._front = {"file": task.name, "puzzle": max(number + 1, task.start)}
             begun = time.perf_counter()
         if number < task.start:
             self._answers.put(task.number, "none", "")
@@ -225,7 +222,7 @@ class Judging:
         kept = {number: (row_of(text), held) for number, text, held in files.kept}
         if not kept:
             return True
-        with contextlib.suppress(Unreadable):
+        with contextlib.suppress(Unreadable, MemoryError):
             for number, has_more, puzzle in self._numbered(task, files):
                 row, held = kept.pop(number, (None, b""))
                 if row is None or (row and (isinstance(puzzle, Unreadable) or row.get("sha256") != sha256)):
@@ -242,16 +239,22 @@ class Judging:
         return False
 
     def _numbered(self, task: Task, files: Files) -> Iterator[tuple[int, bool, Union[Puzzle, Unreadable]]]:
-        """Each puzzle with its number, and whether more follow: those have time of their own. What is wrong with the file is the last one."""
+        """Each puzzle with its number, and whether more follow: those have time of their own. What is wrong with the file is the last one.
+        Where memory ends in reading one, those before it come first.
+        """
         puzzles = self._puzzles(task, files)
-        number, held = 0, None
+        number, held, is_out = 0, None, False
         while True:
             try:
                 puzzle = next(puzzles, None)
             except Unreadable as error:
                 puzzle, puzzles = error, iter(())
+            except MemoryError:
+                is_out = True  # nothing is made before what was read has gone with the error
             if held is not None:
-                yield number, puzzle is not None, held
+                yield number, is_out or puzzle is not None, held
+            if is_out:
+                raise MemoryError
             if puzzle is None:
                 return
             if held is not None:
