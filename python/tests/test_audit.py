@@ -1305,6 +1305,23 @@ class Running(Case):
         rows = self.rows("site", status=3)
         self.assertEqual([(row["verdict"], row["error"]) for row in rows.values()], [("error", "no picture has these clues")] * 2)
 
+    def test_givens_want_a_solution(self):
+        # Of the four pictures with these clues, three have the cell white and one has it black: which one is meant stands nowhere.
+        clues = "width 3\nheight 3\nrows\n1\n2\n1\ncolumns\n1\n2\n1\n"
+        counts = "".join(f'<clues type="{axis}">{"".join(f"<line><count>{one}</count></line>" for one in (1, 2, 1))}</clues>' for axis in ("columns", "rows"))
+        self.put("clues.non", clues)
+        self.put("clues.xml", f"<puzzle>{counts}</puzzle>")
+        self.put("empty.non", clues)
+        self.put("empty.givens", "")
+        self.put("solved.non", clues + 'goal "001110010"\n')
+        for name in ("clues", "solved"):
+            self.put(f"{name}.givens", "given 1 3\n")
+        rows = self.rows("site", status=3)
+        self.assertEqual({name: (row["verdict"], row.get("error")) for name, row in rows.items()}, {
+            "site/clues.non": ("error", "non NoGoal"), "site/clues.xml": ("error", "non NoGoal"),
+            "site/empty.non": ("ambiguous", None), "site/solved.non": ("unique", None),
+        })
+
     def test_order_of_names(self):
         for name in ("b.ppm", "a/b.ppm", "a-b.ppm", "a.ppm", "a/a/c.ppm"):
             self.put(name, p3(UNIQUE))

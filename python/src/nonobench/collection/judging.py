@@ -18,9 +18,14 @@ class Desk:
         self._desk = library.Desk().__enter__()
 
     def painted(self, puzzle: Puzzle) -> Puzzle:
-        """A puzzle as a P3 text. A .non puzzle is the picture of its goal, or that was found for its clues, in its own colours."""
+        """A puzzle as a P3 text. A .non puzzle is the picture of its goal, or that was found for its clues, in its own colours.
+
+        Clues do not say which colours its givens have: with these, one without a goal is refused, as `nonobench assess` does.
+        """
         if not puzzle.is_non:
             return puzzle
+        if puzzle.published:
+            self._text(self._desk.assess(puzzle.text, True, b"", puzzle.published, None, 0))
         text = self._say(puzzle.text, b"", b"write ppm\n", True)
         if puzzle.inks != (WHITE, BLACK):
             size, _, *cells = text.splitlines()[1:]
