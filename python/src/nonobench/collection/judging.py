@@ -8,7 +8,7 @@ from typing import Optional
 from .. import _library as library
 from .._answers import Assessment, assessment_of
 from .._calls import NO_ALLOWANCE, picture_of
-from .puzzles import BLACK, WHITE, Puzzle, Unreadable
+from .puzzles import BLACK, WHITE, Puzzle, Unreadable, need
 
 
 class Desk:
@@ -25,7 +25,8 @@ class Desk:
         if not puzzle.is_non:
             return puzzle
         if puzzle.published:
-            self._text(self._desk.assess(puzzle.text, True, b"", puzzle.published, None, 0))
+            self._desk.assess(puzzle.text, True, b"", b"", b"", 0)  # what is no certificate is refused without a search
+            need(self._desk.text() != b"non NoGoal", "non NoGoal")
         text = self._say(puzzle.text, b"", b"write ppm\n", True)
         if puzzle.inks != (WHITE, BLACK):
             size, _, *cells = text.splitlines()[1:]
