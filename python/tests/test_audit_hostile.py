@@ -1007,6 +1007,20 @@ class Outputs(Case):
             done = subprocess.run(words, cwd=self.folder, env=self.env(), stdout=full, stderr=subprocess.PIPE, text=True)
         self.assertEqual((done.returncode, done.stderr), (3, "nonobench-audit: standard output: No space left on device\n"))
 
+    def test_a_summary_that_nobody_reads(self):
+        """Its reader is waited for; a run that is stopped meanwhile waits for a moment, and has the signal's status."""
+        script, words = "from nonobench.collection import running\nsys.exit(running.main())", self.words("site/one.ppm", "--csv", "rows.csv")[3:]
+        with self.told_to_a_full_pipe(script, *words, stderr=subprocess.PIPE) as (process, said):
+            with self.assertRaises(subprocess.TimeoutExpired):
+                process.wait(3)
+            self.assertEqual(said.read().lstrip(b"\0").splitlines()[0], b"1 puzzle: unique 1")
+            self.assertEqual((process.wait(PATIENCE), process.stderr.read()), (0, b""))
+        with self.told_to_a_full_pipe(script, *words, stderr=subprocess.PIPE) as (process, _):
+            with self.assertRaises(subprocess.TimeoutExpired):
+                process.wait(3)
+            process.send_signal(signal.SIGTERM)
+            self.assertEqual((process.wait(60), process.stderr.read()), (143, b"nonobench-audit: standard output: nobody reads it\n"))
+
     def test_rows_on_standard_output_that_is_a_file(self):
         place = os.path.join(self.folder, "rows")
         with open(place, "wb") as rows:

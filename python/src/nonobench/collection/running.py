@@ -82,7 +82,7 @@ def main(words: Optional[list[str]] = None) -> int:
             print(f"nonobench-audit: {printable(str(error))}", file=sys.stderr)
         except Exception:  # 1 would say that puzzles are not fit
             traceback.print_exc()
-        return ERRORS
+        return 128 + Stopped.came if Stopped.came else ERRORS
     except Stopped as error:
         return 128 + error.args[0]
 
@@ -390,8 +390,6 @@ class Run:
             table.say("\n" + summary)
             table.close(is_whole)
             return
-        try:
-            print(summary, flush=True)
-        except OSError as error:
-            sys.stdout = open(os.devnull, "w")  # it is not tried again
-            raise Failure(f"standard output: {error.strerror}") from error
+        output = Output("-")
+        output.put(f"{summary}\n".encode())
+        output.close()
