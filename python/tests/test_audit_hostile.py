@@ -1494,6 +1494,33 @@ class Processes(Case):
                 self.assertEqual(hand.status(), -signal.SIGKILL)
         self.assertNotIn(seen(hand.pid).state, ("", "Z"))
 
+    def test_too_many_processes_that_cannot_be_ended(self):
+        """They end the run, and what is done is kept; those that have ended since do not count."""
+        answers = "os.write(0, importlib.import_module('nonobench._serve').framed(0, b'ready', *[b''] * 4))"
+        begin = _process._START.replace("serve(int(sys.argv[3]))", f"import os, time\n{answers}\ntime.sleep(9999)")
+        settings = running.settings_of(arguments.options_of([str(self.site)]))
+        tasks = [serving.Task(at, f"{at}.ppm", "", (), None, None, None, "", 1, serving.FULL) for at in range(6)]
+        others = children(os.getpid())
+
+        def end_hung():
+            for pid in {*children(os.getpid())}.difference(others, (hand.pid for hand in pool._hands)):
+                os.kill(pid, signal.SIGKILL)
+
+        self.addCleanup(end_hung)
+        begins = unittest.mock.patch.multiple(_process, _START=begin, ENDING=0.05)
+        bounds = unittest.mock.patch.multiple(workers, SLACK=0.0, TICK=0.01, MOST_HUNG=4, create=True)
+        with begins, bounds, unittest.mock.patch.object(subprocess.Popen, "kill"):
+            for files in (6, 2):  # two processes for each file
+                found, fails = [], contextlib.nullcontext() if files == 6 else self.assertRaisesRegex(workers.Broken, "cannot be ended: 5;")
+                pool = workers.Pool(settings, 1, 0.01)
+                self.addCleanup(pool.close)
+                with self.subTest(files), fails:
+                    for answer in filter(None, pool.answers(iter(tasks))):
+                        found.append((answer.number, answer.verdict))
+                        if files == 6:
+                            end_hung()
+                self.assertEqual(found, [(at, "undecided") for at in range(files)])
+
     def test_too_much_memory(self):
         self.put("a.ppm", p3(UNIQUE))
         # Elements of some 500 bytes each, of a puzzle that has no end.

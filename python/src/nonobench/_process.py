@@ -152,7 +152,11 @@ class Child:
     def status(self) -> int:
         """Ends the process, and answers its status."""
         self.end()
-        return -9 if self._process.poll() is None else self._process.returncode
+        return -9 if self.is_there() else self._process.returncode
+
+    def is_there(self) -> bool:
+        """Whether the process has not ended."""
+        return self._process.poll() is None
 
 
 def waited(children: Iterable[Child], seconds: float) -> list[Any]:

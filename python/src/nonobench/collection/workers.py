@@ -20,6 +20,7 @@ SLACK = 0.25  # seconds that a line may be late
 STUCK = 0.5  # seconds after which others take over what waits for one puzzle
 MOST_TIMES = 100  # a file of several puzzles has so many times the seconds of one
 STARTING = 60.0  # seconds for a process to begin
+MOST_HUNG = 16  # processes that cannot be ended, unless more judge at once
 MOST_PACKED = 64  # files in a pack
 MOST_WEIGHT = 2 << 20  # bytes of the kept rows in a pack, about
 PACK_SECONDS = 0.1  # what a pack shall take
@@ -38,7 +39,7 @@ class Answer(NamedTuple):
 
 
 class Broken(Exception):
-    """No process can be started that judges."""
+    """No process can be started that judges, or too many cannot be ended."""
 
 
 class Hand(Child):
@@ -75,6 +76,7 @@ class Pool:
         self._jobs = jobs
         self._seconds = seconds
         self._hands: list[Hand] = []
+        self._hung: list[Hand] = []  # those that could not be ended
         self._again: deque[Task] = deque()
         self._died: set[tuple[int, int]] = set()
         self._failures = 0
@@ -216,6 +218,9 @@ class Pool:
     def _replace(self, hand: Hand) -> int:
         status = hand.status()
         self._hands.remove(hand)
+        self._hung = [one for one in (*self._hung, hand) if one.is_there()]
+        if len(self._hung) > max(MOST_HUNG, self._jobs):
+            raise Broken(f"processes that cannot be ended: {len(self._hung)}; perhaps a file system does not answer")
         if not hand.is_ready:
             self._failures += 1
             if self._failures > 2:
