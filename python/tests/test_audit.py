@@ -601,6 +601,17 @@ class Running(Case):
                 self.assertEqual(row["note"], f"its {missing}: out of memory: more than 1024 MiB")
                 self.assertEqual((left, os.path.exists(f"{to}.cert")), ([task], missing == "grade"))
 
+    def test_a_certificate_that_is_too_long_is_not_written(self):
+        # No check would read it.
+        answers, to = Answers(), str(self.folder / "made")
+        place = self.put("one.ppm", p3(LEARNT))
+        judge = serving.Judging(serving.Settings("", "", 1024, 9_999, "white", False, False), answers)
+        judge._desk.certify = lambda *words: " " * 16_777_217
+        judge.answer(serving.Task(0, "one.ppm", str(place), (), None, None, to, "", 1, serving.FULL))
+        row = json.loads(answers[-1][3])
+        self.assertEqual((row["verdict"], row["note"], "lines" in row), ("unique", "its certificate: more than 16777216 bytes", False))
+        self.assertFalse(os.path.exists(f"{to}.cert"))
+
     def test_a_certificate_goes_back_before_the_grade(self):
         # Over a scheduler, what is known of a puzzle has its certificate, should its grade not come.
         answers = Answers()

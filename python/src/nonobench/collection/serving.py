@@ -22,7 +22,7 @@ from .._images import is_image, prepare
 from .._serve import STREAM, begin, framed, receive, write
 from . import certificates, readers
 from .judging import Desk
-from .puzzles import Missing, Puzzle, Unreadable
+from .puzzles import MOST_BYTES, Missing, Puzzle, Unreadable
 from .rows import Row, graded, judged_row, noted, row_of, text_of, unfinished
 
 MOMENT = 0.03  # seconds until an answer goes out
@@ -326,6 +326,9 @@ class Judging:
             if time.perf_counter() - about.begun > LONG:
                 self._tell(task, about)
             made = self._desk.certify(puzzle, said)
+            if len(made) > MOST_BYTES:  # no check reads it
+                self._row = unfinished(self._row, f"more than {MOST_BYTES} bytes")
+                return
             self._row = {**self._row, "lines": made.count("\n")}
             if settings.is_inline:
                 self._back = certificates.packed(made)
