@@ -446,15 +446,26 @@ def test_an_operators_folder_that_changes_meanwhile_is_told(site, checked, tmp_p
         assert (status, lines) == (0, [])
     else:
         assert status == 3
-        assert any(line in lines for line in (*(f"{tmp_path}/own/{name}/: {finding.CHANGED}" for name in "ab"), f"own: {finding.CHANGED}"))
+        assert any(line in lines for line in (*(f"{tmp_path}/own/{name}: {finding.CHANGED}" for name in ("", "a/", "b/")), f"own: {finding.CHANGED}"))
 
 
-@pytest.mark.parametrize("change", ("rm site/1.ppm", "cp site/1.ppm site/2.ppm", "echo >> site/1.ppm", "touch site/1.givens", "mkdir site/new.cert"))
+@pytest.mark.parametrize("change", ("rm site/1.ppm", "cp site/1.ppm site/2.ppm", "echo >> site/1.ppm", "touch site/1.givens", "mkdir site/new.cert", "mkdir site/new"))
 def test_a_site_that_changes_meanwhile_is_told(site, checked, monkeypatch, change):
     pair(site, "1", DIAGONAL, ALL)
     real = finding.picture_of
     monkeypatch.setattr(finding, "picture_of", lambda *words: [real(*words), subprocess.run(change, shell=True, check=True, cwd=site.parent)][0])
     assert checked("site", "--untrusted")[1][-1] == f"site/: {finding.CHANGED}"
+
+
+def test_a_folder_of_certificates_that_comes_meanwhile_is_told(site, checked, tmp_path, monkeypatch):
+    """What is put into a folder that was there before counts by its ending, as before."""
+    pair(site, "in/1", certificate=None)
+    pair(tmp_path / "own", "in/1", None)
+    real, status = finding.picture_of, []
+    for change in ("touch own/in/notes", "touch site/in/notes", "mkdir own/in/new"):
+        monkeypatch.setattr(finding, "picture_of", lambda *words: [real(*words), subprocess.run(change, shell=True, check=True)][0])
+        status.append(checked("site", "--certificates", "own"))
+    assert status == [(0, []), (0, []), (3, [f"{tmp_path}/own/in/: {finding.CHANGED}"])]
 
 
 def test_certificates_in_a_folder_of_their_own(site, checked, tmp_path):

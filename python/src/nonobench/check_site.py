@@ -63,7 +63,8 @@ class Site:
         self._folder, *held = (folder and os.path.realpath(folder) for folder in (told.folder, self._certificates, published))
         self._places = finding.Places(*held, told.untrusted, is_site=True)
         finding.begin(told.folder, told.certificates, told.givens)
-        finding.note(told.folder, (*finding.HELD, *finding.TOLD, *finding.SUFFIXES))
+        finding.note(told.folder, (*finding.HELD, *finding.TOLD, *finding.SUFFIXES, finding.FOLDERS))
+        finding.note(told.certificates and self._places.certificates, (*finding.HELD, finding.FOLDERS))
         self._shard = told.shard
         self.unsearched: list[Answer] = []
         self.unread: list[Answer] = []  # in whose place another certificate is

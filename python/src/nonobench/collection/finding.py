@@ -19,6 +19,7 @@ Names = frozenset[str]
 NONE: Names = frozenset()
 Listed = Optional[frozenset[tuple[Any, ...]]]  # names, whether each is a folder's, and of an operator's file what a change of it changes
 HELD, TOLD = tuple(f".{ending}" for ending in ENDINGS), (".givens", ".background")  # what counts in folders of the operator's
+FOLDERS = "/"  # among endings: folders count, whatever their names
 MADE = (".cert", ".ppm", ".givens", ".background")  # what an audit writes, below a folder of the same shape
 CHANGED = "something in it came, went or was written while it was read"
 DEEPEST = 100  # folders within each other below a PATH: what one costs grows with its depth
@@ -211,9 +212,11 @@ def _below(real: str, prefix: str, front: str, places: Places, depth: int = 0) -
 def _scanned(folder: str, ends: tuple[str, ...]) -> Listed:
     try:
         with os.scandir(folder or ".") as entries:
-            kept = [entry for entry in entries if not ends or entry.is_symlink() or entry.name.lower().endswith(ends)]
-            abouts = (entry.stat(follow_symlinks=False) if ends and os.path.lexists(entry) else None for entry in kept)  # too long a path has none
-            return frozenset((one.name, one.is_dir(follow_symlinks=False), about and (about.st_ino, about.st_size, about.st_mtime_ns, about.st_ctime_ns)) for one, about in zip(kept, abouts))
+            every = [(entry, entry.is_dir(follow_symlinks=False)) for entry in entries]
+            kept = [one for one in every if not ends or one[1] and FOLDERS in ends or one[0].is_symlink() or one[0].name.lower().endswith(ends)]
+            # Of a folder its name counts, and too long a path has no more.
+            abouts = (one.stat(follow_symlinks=False) if ends and not is_folder and os.path.lexists(one) else None for one, is_folder in kept)
+            return frozenset((one.name, is_folder, about and (about.st_ino, about.st_size, about.st_mtime_ns, about.st_ctime_ns)) for (one, is_folder), about in zip(kept, abouts))
     except (FileNotFoundError, NotADirectoryError):
         while folder and not os.path.lexists(folder):
             folder = os.path.dirname(folder)
