@@ -16,7 +16,7 @@ import unittest
 from pathlib import Path
 
 import nonobench
-from nonobench import ANY_GIVEN, Block, CertificateFault, Given, GivensFault, LengthFault, PictureFault, Ruling, UnpublishedGiven
+from nonobench import ANY_GIVEN, Block, CertificateFault, Given, GivensFault, LengthFault, PictureFault, Ruling, UnpublishedGiven, _answers
 
 ROOT = Path(__file__).resolve().parent.parent.parent
 # Two rows, black and white, white and black: another picture has the clues, and a given decides it.
@@ -205,6 +205,20 @@ class Answers(unittest.TestCase):
         for published in ((), b" " * 16777217):
             with self.assertRaises(LengthFault):
                 nonobench.check(tile, b"" if published else b" " * 16777217, published=published)
+
+    def test_as_many_givens_as_the_largest_picture_has_cells(self):
+        """More of them are not looked at: no right certificate names more, and a wrong one is refused as before."""
+        whole, head = picture_of("/".join(["a." * 60] * 120)), b"nonolemma 1\n"
+        cells = tuple((row, column) for row in range(1, 121) for column in range(1, 121))
+        lines = b"".join(b"given %d %d\n" % cell for cell in cells)
+        self.assertTrue(nonobench.assess(whole, head + lines + b"done\n", published=ANY_GIVEN).named == cells)
+        for more in (b"given 1 1\n", b"given 121 1\n"):
+            wrong = head + lines + more * 9 + b"done\n"
+            with self.assertRaises(CertificateFault) as caught:
+                nonobench.check(whole, wrong, published=ANY_GIVEN)
+            with self.assertRaisesRegex(CertificateFault, f"^{caught.exception}$"):
+                nonobench.assess(whole, wrong, published=ANY_GIVEN)
+        self.assertEqual(len(_answers.givens_of(head + b"given 1 1\n" * 14401)), 14400)
 
     def test_certificates_with_a_byte_changed(self):
         source, picture, count = random.Random(1), picture_of("a./.b"), 0

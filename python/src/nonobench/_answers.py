@@ -9,6 +9,8 @@ import re
 from dataclasses import dataclass
 from typing import Iterable, NamedTuple, Optional
 
+MOST_CELLS = 120 * 120  # of a picture
+
 
 class Fault(Exception):
     """A file is refused. `name` is the error's name in docs/FORMATS.md, and `text` what the program says after `nonobench: `."""
@@ -99,8 +101,8 @@ class Result:
 
 
 def givens_of(certificate: bytes) -> tuple[Given, ...]:
-    """The givens that a right certificate names: they stand directly below its first line. No right one has longer numbers."""
-    lines = itertools.islice(io.BytesIO(certificate), 1, None)
+    """The givens that a right certificate names: they stand directly below its first line. No right one has more or longer numbers."""
+    lines = itertools.islice(io.BytesIO(certificate), 1, 1 + MOST_CELLS)
     found = itertools.takewhile(bool, map(re.compile(rb"given (\d{1,3}) (\d{1,3})\n?").fullmatch, lines))
     return tuple(Given(int(match[1]), int(match[2])) for match in found if match)
 
