@@ -56,7 +56,7 @@ class Tally:
             lines.append(f"besides: {counted(self.flaws, sorted(self.flaws))}")
         return "\n".join(lines)
 
-    def warn(self, options: Options, is_stopped: bool, told: dict[str, list[str]], left: int) -> None:
+    def warn(self, options: Options, is_stopped: bool, told: dict[str, list[str]], left: int = 0) -> None:
         """Says on standard error what kept the run from judging all, what is told of files, and how many rows were left out."""
         lines = [f"{count} not read, since {name} is not installed" for name, count in sorted(self._missing.items())]
         lines += [f"{word}s not written: {count}" for word, count in sorted(self._unwritten.items())]
