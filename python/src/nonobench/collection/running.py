@@ -383,7 +383,7 @@ class Run:
         options, summary = self._options, self._tally.summary()
         unread = {"not read, since a .cert is there": self._unread, "not read, since there is no such puzzle": self._lost}
         self._tally.warn(options, is_stopped, {**unread, OLD: self._old}, self._left)
-        if options.is_quiet or "-" in (options.jsonl, options.csv):
+        if options.is_quiet or "-" in (options.jsonl, options.csv) or sys.__stdout__ is None:
             return
         table = next((sink for sink in self._sinks if isinstance(sink, Table)), None)
         if table is not None:
