@@ -25,7 +25,9 @@ class Desk:
         if not puzzle.is_non:
             return puzzle
         if puzzle.published:
-            self._desk.assess(puzzle.text, True, b"", b"", b"", 0)  # what is no certificate is refused without a search
+            # What is no certificate is refused without a search.
+            if self._desk.assess(puzzle.text, True, b"", b"", b"", 0) == library.MEMORY:
+                raise MemoryError
             need(self._desk.text() != b"non NoGoal", "non NoGoal")
         text = self._say(puzzle.text, b"", b"write ppm\n", True)
         if puzzle.inks != (WHITE, BLACK):
