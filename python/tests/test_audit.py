@@ -662,7 +662,7 @@ class Running(Case):
         self.put("given.ppm", p3(AMBIGUOUS))
         self.put("given.givens", "given 2 2\ngiven 1 1\n")
         # By a black background: one white cell, on maxval 1.
-        self.put("in/dark.ppm", b"P3 # mine\n2 1 1 0 0 0 1 1 1")
+        self.put("in/dark.ppm", b"P3 # nonobench givens 1,1\n2 1 1#\r0 0 0 1 1 1")
         self.put("in/dark.background", "corner")
         self.put("set.xml", "<puzzleset>" + webpbn(UNIQUE) + webpbn(AMBIGUOUS) + webpbn(UNIQUE[::-1]) + "</puzzleset>")
         self.put("key.non", "width 1\nheight 1\nrows\n1\ncolumns\n1\n")
@@ -670,7 +670,7 @@ class Running(Case):
         out = self.folder / "out"
         made = {str(place.relative_to(out)): place.read_bytes() for place in out.rglob("*") if place.is_file() and place.suffix != ".cert"}
         self.assertEqual(made, {
-            "one.ppm": p3(UNIQUE), "given.ppm": p3(AMBIGUOUS), "given.givens": b"given 2 2\ngiven 1 1\n", "in/dark.ppm": b"P3 # mine\n2 1 1 0 0 0 1 1 1",
+            "one.ppm": p3(UNIQUE), "given.ppm": p3(AMBIGUOUS), "given.givens": b"given 2 2\ngiven 1 1\n", "in/dark.ppm": b"P3 \n2 1 1\r0 0 0 1 1 1",
             "in/dark.background": b"0,0,0\n", "set.ppm": p3(UNIQUE), "set.3.ppm": p3(UNIQUE[::-1]), "key.ppm": made["key.ppm"],
         })
         self.assertEqual(made["key.ppm"].split(), b"P3 1 1 255 0 0 0".split())
@@ -696,6 +696,16 @@ class Running(Case):
         self.rows("site", "--ppm", "out", "--certify", "out", "--resume", status=1)
         self.assertFalse((out / "in" / "dark.background").exists())
         self.assertEqual(check_site.main([str(out), "--quiet"]), 0)
+
+    def test_a_row_with_a_given_of_which_nothing_is_known_is_kept(self):
+        # Without one of them two rows and columns are open, which takes a split.
+        self.put("one.ppm", "P3 3 3 1 " + " ".join("0 0 0" if row == column else "1 1 1" for row in range(3) for column in range(3)))
+        self.put("one.givens", "given 1 1\ngiven 2 2\n")
+        words = ["site", "--allow", "0", "--certify", "out"]
+        self.assertEqual(self.rows(*words, status=0)["site/one.ppm"]["unknown"], [1, 1])
+        made = (self.folder / "out/one.cert").stat().st_mtime_ns
+        self.rows(*words, "--resume", status=0)
+        self.assertEqual((self.folder / "out/one.cert").stat().st_mtime_ns, made)
 
     def test_what_stays_of_a_puzzle_that_is_not_unique_is_told(self):
         """A kept row tells it, too; the puzzle's own certificate, which is read, is none of that."""

@@ -6,6 +6,7 @@ import base64
 import contextlib
 import functools
 import os
+import re
 import zlib
 from typing import TYPE_CHECKING, Iterator, Optional
 
@@ -23,7 +24,7 @@ if TYPE_CHECKING:
 
 
 # What a row has that its puzzle and its certificate do not tell. The rest is compared where a row is kept.
-UNBOUND = ("file", "puzzle", "more", "seconds", "content", "sha256", "made")
+UNBOUND = ("file", "puzzle", "more", "seconds", "content", "sha256", "made", "limit")
 
 
 def told(desk: Desk, puzzle: Puzzle, beside: list[bytes]) -> tuple[Row, Optional[Assessment]]:
@@ -85,7 +86,8 @@ def write(name: str, text: str) -> str:
 def publish(puzzle: Puzzle, name: str) -> str:
     """Writes givens and background, and then the picture, which without them would be another puzzle. Answers a note as `write` does."""
     background = b"" if puzzle.background is None else puzzle.word() + b"\n"
-    parts = {"givens": puzzle.published, "background": background, "ppm": puzzle.text}
+    picture = re.sub(rb"#[^\r\n]*", b"", puzzle.text)  # comments of others are no part of it, and may say what was not judged
+    parts = {"givens": puzzle.published, "background": background, "ppm": picture}
     if all(_lies(f"{name}.{ending}", data) for ending, data in parts.items()):
         return ""
     for ending in reversed(parts):
