@@ -253,8 +253,8 @@ def test_what_lies_beside_a_picture_is_bounded_as_a_picture_is(site, checked):
     assert checked("site") == (3, [f"site/{name}: more than 16777216 bytes" for name in ("long.cert: its givens", "longer.cert: its background")])
 
 
-def test_each_certificate_is_of_the_picture_of_which_it_is_for_an_audit(site, checked, tmp_path, capsys):
-    """In a folder of their own those after the whole name come first, and beside the pictures NAME.cert is of NAME.ppm."""
+def test_each_certificate_is_of_one_picture(site, checked, tmp_path):
+    """NAME.cert is of NAME.ppm where that is there, and else of NAME, beside the pictures and in a folder of their own."""
     own = tmp_path / "own"
     for place in (site, own):
         pair(place, "one", None)
@@ -262,12 +262,8 @@ def test_each_certificate_is_of_the_picture_of_which_it_is_for_an_audit(site, ch
     pair(site, "one", certificate=None)
     pair(site, "one.ppm", CROSS, None, **{"ppm.givens": "given 1 1\n"})
     assert checked("site") == (0, [])
-    refused = ["own/one.ppm.cert: certificate UnpublishedGiven at line 2"]
-    for more in ((), ("--untrusted",)):
-        assert check_site.main(["site", "--certificates", "own", *more]) == 1
-        said = capsys.readouterr()
-        assert said.out.splitlines() == refused
-        assert said.err.splitlines() == ["nonobench-check-site: own/one.cert: not read, since its picture has another certificate", "accepted 0, refused 1, not read 0"]
+    assert checked("site", "--certificates", "own") == (0, [])
+    assert checked("site", "--certificates", "own", "--untrusted") == (1, ["own/one.ppm.cert: certificate UnpublishedGiven at line 2"])
     (own / "one.ppm.cert").rename(own / "one.ppm.ppm.cert")
     assert checked("site", "--certificates", "own") == (0, [])
     # One after the whole name is read beside its picture, too.
@@ -466,6 +462,21 @@ def test_a_folder_of_certificates_that_comes_meanwhile_is_told(site, checked, tm
         monkeypatch.setattr(finding, "picture_of", lambda *words: [real(*words), subprocess.run(change, shell=True, check=True)][0])
         status.append(checked("site", "--certificates", "own"))
     assert status == [(0, []), (0, []), (3, [f"{tmp_path}/own/in/: {finding.CHANGED}"])]
+
+
+@pytest.mark.parametrize("names", (("a", "a.ppm", "a.ppm.ppm"), ("a", "a.ppm"), ("", ".cert")))
+@pytest.mark.parametrize("apart", (False, True))
+def test_a_certificate_is_of_the_picture_with_its_name(site, checked, tmp_path, names, apart):
+    # The last two pictures (of a chain of names) have one certificate, which is right for one of them alone.
+    (tmp_path / "own").mkdir()
+    for name in names:
+        pair(tmp_path / "own" if apart else site, name, None, DIAGONAL_CERT)
+        pair(site, name, DIAGONAL, None)
+    words = ["site", "--untrusted", *(["--certificates", "own"] if apart else [])]
+    assert checked(*words) == (0, [])
+    pair(site, names[0 if names[0] == "" else -1], CROSS, None)
+    status, lines = checked(*words)
+    assert status == 1 and len(lines) == 1
 
 
 def test_certificates_in_a_folder_of_their_own(site, checked, tmp_path):

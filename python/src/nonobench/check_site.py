@@ -101,11 +101,7 @@ class Site:
             front = os.path.join(os.path.dirname(name), "")
             folder = finding.pictures_in(self._folder, front, self._places)
             file, certificate = (os.path.join(way, name) for way in (self._certificates, self._places.certificates or ""))
-            found = finding.picture_of(folder, os.path.splitext(os.path.basename(name))[0], certificate)
-            if found is None:
-                self.unread.append(Answer(file, ACCEPTED, "not read, since its picture has another certificate"))
-            else:
-                yield file, certificate, found
+            yield file, certificate, finding.picture_of(folder, os.path.basename(name).rpartition(".")[0])
 
 
 def _background(path: Optional[str]) -> Optional[Triple]:

@@ -303,12 +303,10 @@ def pictures_in(way: str, front: str, places: Places) -> Folder:
     return _folder(real, real, front, kept, places)
 
 
-def picture_of(folder: Folder, called: str, certificate: str) -> Optional[Found]:
-    """The picture that a certificate is for, or would be; nothing where another certificate takes its place."""
+def picture_of(folder: Folder, called: str) -> Found:
+    """The picture that a site's certificate is for, or would be: NAME.ppm of NAME.cert, else NAME."""
     short = f"{called}.ppm"
-    found = [_found(folder, name) for name in (called, short) if _is_puzzle(folder, name)]
-    of = next((one for one in found if (1, certificate) in one.beside), None)
-    return of if of or _is_puzzle(folder, short) else _found(folder, short)
+    return _found(folder, called if short not in folder.names and _is_puzzle(folder, called) else short)
 
 
 def begin(*ways: Optional[str]) -> None:
