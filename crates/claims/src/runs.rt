@@ -50,8 +50,8 @@ pub fn run_with<F: Files + Drop>(alloc: Global, asked: Run<F>, input: &[u8]) -> 
 }
 
 /// Three runs: `write ppm` and `certify` as the inputs of two sessions on one P3 file, and a check. Where the check is asked of
-/// two files that hold what the sessions wrote, with the document's background, it accepts, unless `certify` wrote `ambiguous`,
-/// memory runs out, a read or a write fails, or one of the files is longer than 16 MiB.
+/// two files that hold what the sessions wrote, with the document's background, it accepts. It may not where `certify` wrote
+/// `ambiguous`, memory runs out, a read or a write fails, or one of the files is longer than 16 MiB.
 pub fn run_prints_what_run_accepts<F: Files + Drop>(
     alloc: Global,
     writing: Run<F>,
