@@ -9,7 +9,7 @@ import re
 from dataclasses import dataclass
 from typing import Iterable, NamedTuple, Optional
 
-MOST_CELLS = 120 * 120  # of a picture
+MOST_GIVENS = 120 * 120  # a picture has no more cells
 
 
 class Fault(Exception):
@@ -102,7 +102,7 @@ class Result:
 
 def givens_of(certificate: bytes) -> tuple[Given, ...]:
     """The givens that a right certificate names: they stand directly below its first line. No right one has more or longer numbers."""
-    lines = itertools.islice(io.BytesIO(certificate), 1, 1 + MOST_CELLS)
+    lines = itertools.islice(io.BytesIO(certificate), 1, 1 + MOST_GIVENS)
     found = itertools.takewhile(bool, map(re.compile(rb"given (\d{1,3}) (\d{1,3})\n?").fullmatch, lines))
     return tuple(Given(int(match[1]), int(match[2])) for match in found if match)
 
