@@ -1,21 +1,15 @@
 -- The words of a line.
-use Rattle.std.specs.Prelude.{◌≡◌, ℕ, ◌<◌, Bool, not, ◌||◌, ◌==◌, List, [], ◌∷◌, length, filter, Option, None, Some}
+use Rattle.std.specs.Prelude.{◌≡◌, ℕ, ◌<◌, Bool, List, [], ◌∷◌, length, filter, Option, None, Some}
 use Rattle.std.specs.Prelude.{nat_eq}
 use Rattle.std.specs.Borrow.{Bor}
 use Rattle.std.specs.Cmp.Lexicographic.{pointwise}
 use Rattle.std.specs.List.{slice_split}
+pub use Rattle.picture.specs.Blanks.{is_blank, is_no_blank}
 pub use Rattle.picture.specs.Numbers.{has_byte}
 
 -- words, or lines, or other texts: each by its bytes
 abbrev pub Texts : Type 0
 Texts = List (List ℕ)
-
--- a space or a TAB
-abbrev pub is_blank : ℕ → Bool
-is_blank b = (b == 32) || (b == 9)
-
-abbrev pub is_no_blank : ℕ → Bool
-is_no_blank b = not (is_blank b)
 
 -- the pieces between blanks that have a byte
 unfoldable pub words_of : List ℕ → Texts

@@ -1,28 +1,8 @@
 //! The words of a line. Nothing is copied.
 
-ghost use Rattle.std.specs.Prelude.{◌≡◌, position};
-ghost use Rattle.command_text.specs.Words.{IsFirstWord, is_blank, is_no_blank};
+ghost use Rattle.command_text.specs.Words.{IsFirstWord};
 
-// Whether a byte is a space or a TAB.
-fn is_blank(byte: u8) -> bool
-    ensures { result ≡ is_blank byte }
-{
-    byte == b' ' || byte == b'\t'
-}
-
-// The place of the first blank.
-fn blank_place(bytes: &[u8]) -> Option<usize>
-    ensures { result ≡ position is_blank bytes.now }
-{
-    bytes.iter().position(|b| is_blank(*b))
-}
-
-// The place of the first byte that is no blank.
-fn word_place(bytes: &[u8]) -> Option<usize>
-    ensures { result ≡ position is_no_blank bytes.now }
-{
-    bytes.iter().position(|b| !is_blank(*b))
-}
+use picture::{blank_place, word_place};
 
 // The first word, and what follows it.
 pub(crate) fn next_word(line: &[u8]) -> Option<(&[u8], &[u8])>

@@ -30,6 +30,7 @@ pub enum Made {
 const EFFORT: Effort = Effort {
     conflicts: 250_000,
     literals: 10_000_000,
+    aims: false,
 };
 
 /// Makes a certificate with lemmas and exactly these givens: `check_cert` accepts it, so no other picture has the clues and, in the

@@ -1,6 +1,6 @@
 //! Decisions of a search: on the most active colour of an open cell.
 
-use crate::atom::{Atom, Literal, bit, has, is_settled};
+use crate::atom::{Atom, Literal, bit, has, is_settled, spot};
 use crate::marks::Reason;
 use crate::search::Search;
 use picture::MAX_COLOURS;
@@ -50,13 +50,46 @@ impl<'a> Search<'a> {
         None
     }
 
+    // Whether the decision of an atom chooses its colour: if the search aims at it, or where there is no aim, if it is preferred.
+    fn chooses(&self, atom: Atom) -> bool {
+        match self.aim.get(spot(atom.cell)).copied() {
+            Some(aim) if aim != 0 => has(aim, atom.colour),
+            _ => self.prefers.get(atom.place()).copied().unwrap_or(false),
+        }
+    }
+
+    /// At a conflict, aims at the colours that were settled before the last decision, if the search had never come that far.
+    pub(crate) fn note_aim(&mut self) {
+        let before = self.marks.level().saturating_sub(1);
+        let reached = self.marks.before_level(before).unwrap_or(0);
+        if reached <= self.furthest {
+            return;
+        }
+        self.furthest = reached;
+        for at in 0..self.aim.len() {
+            let left = self.marks.left.get(at).copied().unwrap_or(0);
+            self.set_aim(at, if is_settled(left) { left } else { 0 });
+        }
+        for at in reached..self.marks.count() {
+            if let Some(event) = self.marks.event(at) {
+                self.set_aim(spot(event.gone.cell), 0);
+            }
+        }
+    }
+
+    fn set_aim(&mut self, at: usize, colours: u16) {
+        if let Some(aim) = self.aim.get_mut(at) {
+            *aim = colours;
+        }
+    }
+
     // The colours that the decision of an atom excludes. The first decision denies the picture's colour, so that lemmas follow from the
     // clues and the givens alone.
     fn denied(&self, atom: Atom) -> u16 {
         let left = self.marks.left(atom.cell);
         if self.marks.is_at_root() {
             left & self.board.own(atom.cell)
-        } else if self.prefers.get(atom.place()).copied().unwrap_or(false) {
+        } else if self.chooses(atom) {
             left & !bit(atom.colour)
         } else {
             bit(atom.colour)

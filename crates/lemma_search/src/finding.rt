@@ -41,6 +41,9 @@ pub fn learn<E: LineEngine>(
 {
     let board = Board::new(alloc, clues, givens, picture)?;
     let mut search = Search::new(alloc, &board)?;
+    if effort.aims {
+        search.furthest = 0;
+    }
     match search.run(alloc, engine, effort)? {
         Ended::Other(other) => Ok(Found::Other(other)),
         Ended::Undecided => Ok(Found::Nothing),

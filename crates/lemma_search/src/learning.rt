@@ -12,6 +12,7 @@ impl<'a> Search<'a> {
     /// Learns a lemma from a conflict, goes back to the level at which it holds a cell, and holds that. False if no decision led to
     /// the conflict, so that there is no level to go back to.
     pub(crate) fn learn(&mut self, conflict: Reason) -> Result<bool, AllocError> {
+        self.note_aim();
         let Some(at) = self.resolve(conflict)? else {
             return Ok(false);
         };

@@ -10,11 +10,13 @@ use line_facts::LineEngine;
 use picture::{Axis, LineId, LineSet, MAX_SIDE, Picture};
 use std::alloc::{AllocError, Global};
 
-/// The bounds of a search: how many conflicts it learns from, and how many literals its lemmas have in all.
+/// The bounds of a search: how many conflicts it learns from, and how many literals its lemmas have in all. If it `aims`, decisions
+/// repeat the colours with which it came furthest, which is for finding a picture.
 #[derive(Clone, Copy)]
 pub struct Effort {
     pub conflicts: u32,
     pub literals: usize,
+    pub aims: bool,
 }
 
 /// How a search ended: there is no other picture, or it found this one, or it reached its bounds.

@@ -3,7 +3,7 @@
 use crate::atom::{Atom, Literal, STRIDE, first_colour, has, is_settled, spot, without_first};
 use crate::board::Board;
 use crate::log::Log;
-use crate::marks::{Marks, Reason};
+use crate::marks::{Marks, NEVER, Reason};
 use crate::order::Order;
 use crate::store::Store;
 use crate::sweeping::Sweep;
@@ -29,6 +29,10 @@ pub(crate) struct Search<'a> {
     pub first: Vec<u16>,
     // For each atom whether a decision on it chooses the colour; else it excludes it.
     pub prefers: Vec<bool>,
+    // For each cell the colour that decisions aim at, as a mask, or 0: that with which the search came furthest.
+    pub aim: Vec<u16>,
+    // How many events there were then. While it is `NEVER`, there is no aim.
+    pub furthest: u32,
     // How many events exclude the picture's colour.
     pub differing: u32,
     // A line that does not have its clue in the picture shown.
@@ -65,6 +69,8 @@ impl<'a> Search<'a> {
             seen: 0,
             first: Vec::new(alloc),
             prefers: vec![in alloc; false; atoms]?,
+            aim: vec![in alloc; 0; usize::from(height) * STRIDE]?,
+            furthest: NEVER,
             differing: 0,
             broken: None,
             learning: Learning {

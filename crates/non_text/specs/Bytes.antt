@@ -1,11 +1,8 @@
 -- Bytes of a line: blanks, digits, words and numbers.
-use Rattle.std.specs.Prelude.{ℕ, Bool, true, false, not, ◌&&◌, ◌||◌, List, [], ◌∷◌, take, drop, nat_le, ◌==◌}
+use Rattle.std.specs.Prelude.{ℕ, Bool, true, false, ◌&&◌, List, [], ◌∷◌, take, drop, nat_le}
 use Rattle.std.specs.Prelude.{if◌then◌else◌}
 use Rattle.std.specs.List.{list_all, position_or_len}
-
--- a space or a TAB
-unfoldable pub is_blank : ℕ → Bool
-is_blank b = (b == 32) || (b == 9)
+pub use Rattle.picture.specs.Blanks.{is_blank, is_no_blank}
 
 abbrev pub is_lower : ℕ → Bool
 is_lower b = nat_le 97 b && nat_le b 122
@@ -13,9 +10,6 @@ is_lower b = nat_le 97 b && nat_le b 122
 abbrev pub is_empty : {X : Type 0} → List X → Bool
 is_empty [] = true
 is_empty (x ∷ xs) = false
-
-abbrev pub is_no_blank : ℕ → Bool
-is_no_blank b = not (is_blank b)
 
 -- the bytes without the blanks at the front
 unfoldable pub past_blanks : List ℕ → List ℕ

@@ -1,33 +1,12 @@
 //! The lines of a text, cut off one by one. Nothing is copied.
 
-ghost use Rattle.std.specs.Prelude.{◌≡◌, option_map, position};
+ghost use Rattle.std.specs.Prelude.{◌≡◌, option_map};
 ghost use Rattle.std.specs.Str.Lines.{strip_carriage_return};
-ghost use Rattle.non_text.specs.Bytes.{is_blank, is_no_blank, past_blanks, before_blanks, trimmed, first_word, past_word};
+ghost use Rattle.non_text.specs.Bytes.{past_blanks, before_blanks, trimmed, first_word, past_word};
 ghost use Rattle.non_text.specs.Lines.{all_lines, is_blank_line, is_comment, lines_of, keyword_of, value_of, at_keyword};
 ghost use Rattle.non_text.specs.Cut.{IsFirstOf, section_lines, lines_found};
 
-use picture::split_first;
-
-#[tactic(auto, unfolding(crate::specs::Bytes::is_blank))]
-fn is_blank(byte: u8) -> bool
-    ensures { result ≡ is_blank byte }
-{
-    byte == b' ' || byte == b'\t'
-}
-
-// The place of the first blank.
-fn blank_place(bytes: &[u8]) -> Option<usize>
-    ensures { result ≡ position is_blank bytes.now }
-{
-    bytes.iter().position(|b| is_blank(*b))
-}
-
-// The place of the first byte that is not a blank.
-fn word_place(bytes: &[u8]) -> Option<usize>
-    ensures { result ≡ position is_no_blank bytes.now }
-{
-    bytes.iter().position(|b| !is_blank(*b))
-}
+use picture::{blank_place, is_blank, split_first, word_place};
 
 #[tactic(auto, using(crate::proofs::BytesLemmas::fronts))]
 // The bytes without the blanks at the front.

@@ -1,3 +1,4 @@
+pub mod Blanks
 pub mod CellSet
 pub mod Content
 pub mod CrossingLines

@@ -1,6 +1,7 @@
 //! Pictures, palettes, givens and views of lines: the values that other crates use.
 #![tactic(auto)]
 
+mod blanks;
 mod cell_set;
 mod cutting;
 mod document;
@@ -16,6 +17,7 @@ mod picture;
 mod rgb;
 mod writing;
 
+pub use blanks::{blank_place, is_blank, word_place};
 pub use cell_set::CellSet;
 pub use cutting::split_first;
 pub use document::Document;

@@ -17,7 +17,7 @@ use Rattle.command_text.specs.declared.command.Command.TheVariants as command
 use Rattle.command_text.specs.declared.request.Request.{Request}
 use Rattle.command_text.specs.declared.request.Request.TheVariants as request
 use Rattle.command_text.specs.Lines.{ended_lines_of, lines_of, request_of}
-use Rattle.command_text.specs.Words.{Texts, words_of}
+use Rattle.command_text.specs.Words.{Texts, is_blank, words_of}
 use Rattle.session.specs.Refusal.{memory_line}
 use Rattle.session.specs.Session.{IsShort, Replies, Runs, Says, SaysTo, SaysToAll}
 use Rattle.published.specs.Laws.{PairsAreAccepted}
@@ -66,7 +66,7 @@ unfolding lines_of ended_lines_of
 picture_lines = refl
 
 picture_asks : request_of (codes "write ppm") ≡ request.Command command.WritePpm
-unfolding request_of words_of
+unfolding request_of words_of is_blank
 picture_asks = refl
 
 cert_lines : lines_of (codes "certify\n") ≡ codes "certify" ∷ []
@@ -74,7 +74,7 @@ unfolding lines_of ended_lines_of
 cert_lines = refl
 
 cert_asks : request_of (codes "certify") ≡ request.Command command.Certify
-unfolding request_of words_of
+unfolding request_of words_of is_blank
 cert_asks = refl
 
 pub printed : (s : Seen) → PairsAreAccepted s → PrintedAreAccepted s

@@ -96,6 +96,7 @@ fn learn_first<E: LineEngine>(
     let effort = Effort {
         conflicts,
         literals: LITERALS,
+        aims: true,
     };
     let givens = CellSet::empty();
     let found = learn(alloc, engine, scene.clues, &givens, avoided, effort)?;

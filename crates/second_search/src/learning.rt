@@ -39,6 +39,7 @@ pub(crate) fn learn_part<E: LineEngine>(
     let effort = Effort {
         conflicts,
         literals: LITERALS,
+        aims: false,
     };
     let givens = outside_of(cells, scene.picture);
     match make_proof_within(alloc, engine, scene.picture, &givens, effort)? {

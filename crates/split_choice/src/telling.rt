@@ -24,8 +24,8 @@ pub(crate) struct Place {
     pub cell: Cell,
 }
 
-/// The most telling open cells of a part, in order: with many settled neighbours, on lines that the held picture's colours do not
-/// fill, and on lines with few open cells.
+/// The `MOST_CELLS` most telling open cells of a part, best first: with many settled neighbours, on lines that the held picture's
+/// colours do not fill, or with few open cells.
 pub(crate) fn most_telling(
     alloc: Global,
     node: &Node,
