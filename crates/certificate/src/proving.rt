@@ -14,7 +14,7 @@ use crate::root::root_facts;
 use crate::trees::decided_by_trees;
 use cert_text::{Cert, CertLine, Form, runs_of, write_cert};
 use clues::ClueBook;
-use lemma_proof::{Made, check_made, given_cells, make_proof};
+use lemma_proof::{EFFORT, Made, check_made, given_cells, make_proof};
 use line_facts::LineEngine;
 use picture::{CellSet, Picture};
 use second_search::{BOUNDS, Scene, find_near_other};
@@ -146,7 +146,7 @@ fn proof_within<E: LineEngine>(
     if is_straight(&tree) {
         return shorter(alloc, told, tree);
     }
-    let learnt = make_proof(alloc, engine, picture, givens)?;
+    let learnt = make_proof(alloc, engine, picture, givens, EFFORT)?;
     let made = shorter(alloc, learnt, told)?;
     shorter(alloc, made, tree)
 }

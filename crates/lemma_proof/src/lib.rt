@@ -4,8 +4,9 @@
 mod making;
 mod naming;
 mod single;
+mod turning;
 
 pub use lemma_search::Effort;
-pub use making::{Made, check_made, make_proof, make_proof_within};
+pub use making::{EFFORT, Made, check_made, make_proof};
 pub use naming::given_cells;
 pub use single::with_single_steps;

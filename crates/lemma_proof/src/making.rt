@@ -10,6 +10,7 @@ ghost use Rattle.lemma_proof.specs.Making.{AgreesIn, IsMadeOf, Makes};
 ghost use Rattle.lemma_proof.specs.Naming.{NamesGivens};
 
 use crate::naming::given_cells;
+use crate::turning::Turn;
 use cert_check::check_cert;
 use cert_text::{Cert, CertFault, Form, runs_of};
 use clues::ClueBook;
@@ -26,8 +27,8 @@ pub enum Made {
     Undecided,
 }
 
-// The bounds of the search of `make_proof`.
-const EFFORT: Effort = Effort {
+/// The bounds of a search for a proof of a whole picture.
+pub const EFFORT: Effort = Effort {
     conflicts: 250_000,
     literals: 10_000_000,
     aims: false,
@@ -35,25 +36,9 @@ const EFFORT: Effort = Effort {
 
 /// Makes a certificate with lemmas and exactly these givens: `check_cert` accepts it, so no other picture has the clues and, in the
 /// givens, the colours. Or it finds such a picture, or is undecided: what it finds within the bounds of its search is not
-/// promised. No line of the picture may be longer than the engine takes. The engine's calls do not fall.
+/// promised. It is sought in one of the ways in which the picture can lie, the same in all of them. No line of the picture may be
+/// longer than the engine takes. The engine's calls do not fall.
 pub fn make_proof<E: LineEngine>(
-    alloc: Global,
-    engine: &mut E,
-    picture: &Picture,
-    givens: &CellSet,
-) -> Result<Made, AllocError>
-    requires inside { AreInside givens.now picture.now }
-    requires wide { width_of picture.now ≤ E.longest engine.old }
-    requires tall { length picture.now ≤ E.longest engine.old }
-    ensures makes { IfOk result (Makes picture.now givens.now) }
-    ensures calls { E.calls engine.old ≤ E.calls engine.new }
-    ensures same_longest { E.longest engine.new ≡ E.longest engine.old }
-{
-    make_proof_within(alloc, engine, picture, givens, EFFORT)
-}
-
-/// Makes a proof as `make_proof` does, within other bounds. What is promised is the same whatever these are.
-pub fn make_proof_within<E: LineEngine>(
     alloc: Global,
     engine: &mut E,
     picture: &Picture,
@@ -67,15 +52,29 @@ pub fn make_proof_within<E: LineEngine>(
     ensures calls { E.calls engine.old ≤ E.calls engine.new }
     ensures same_longest { E.longest engine.new ≡ E.longest engine.old }
 {
-    let clues = ClueBook::of(alloc, picture)?;
-    match learn(alloc, engine, &clues, givens, picture, effort)? {
-        Found::Proof(lines) => {
+    let turn = Turn::first_of(picture);
+    let laid = turn.laid(alloc, picture)?;
+    let clues = ClueBook::of(alloc, &laid)?;
+    match learn(
+        alloc,
+        engine,
+        &clues,
+        &turn.laid_cells(givens),
+        &laid,
+        effort,
+    )? {
+        Found::Proof(mut steps) => {
+            turn.raise(&mut steps);
             let cells = given_cells(alloc, picture, givens)?;
-            let runs = runs_of(alloc, &lines)?;
-            let cert = Cert::new(Form::LemmaRuns, cells, lines, runs);
+            let runs = runs_of(alloc, &steps)?;
+            let cert = Cert::new(Form::LemmaRuns, cells, steps, runs);
             check_made(alloc, engine, picture, givens, cert)
         }
-        Found::Other(other) => Ok(compared(&clues, givens, picture, other)),
+        Found::Other(other) => {
+            let other = turn.back().laid(alloc, &other)?;
+            let clues = ClueBook::of(alloc, picture)?;
+            Ok(compared(&clues, givens, picture, other))
+        }
         Found::Nothing => Ok(Made::Undecided),
     }
 }

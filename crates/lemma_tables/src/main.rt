@@ -6,7 +6,7 @@
 use anyhow::{Result, bail};
 use cert_check::check_cert;
 use cert_text::{Cert, CertFault, read_cert, write_cert};
-use lemma_proof::{Made, make_proof};
+use lemma_proof::{EFFORT, Made, make_proof};
 use line_settle::MaskEngine;
 use picture::{MAX_SIDE, Picture};
 use ppm_text::read_ppm;
@@ -60,7 +60,13 @@ fn prove(rt: &(impl AllocGlobal + Print + Files), file: &str) -> Result<()> {
     };
     let _ = document.picture.height();
     let mut engine = MaskEngine::make(rt.alloc(), MAX_SIDE)?;
-    match make_proof(rt.alloc(), &mut engine, &document.picture, &document.givens)? {
+    match make_proof(
+        rt.alloc(),
+        &mut engine,
+        &document.picture,
+        &document.givens,
+        EFFORT,
+    )? {
         Made::Proof(proof) => print_proof(rt, &proof),
         Made::Other(_) => Ok(println!(rt; "ambiguous")?),
         Made::Undecided => Ok(println!(rt; "undecided")?),

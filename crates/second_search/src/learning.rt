@@ -8,7 +8,7 @@ ghost use Rattle.second_search.specs.Scene.{CanSearch};
 
 use crate::counting::Ending;
 use crate::scene::Scene;
-use lemma_proof::{Effort, Made, make_proof_within};
+use lemma_proof::{Effort, Made, make_proof};
 use line_facts::LineEngine;
 use picture::{CellSet, MAX_SIDE, Picture};
 use std::alloc::{AllocError, Global};
@@ -42,7 +42,7 @@ pub(crate) fn learn_part<E: LineEngine>(
         aims: false,
     };
     let givens = outside_of(cells, scene.picture);
-    match make_proof_within(alloc, engine, scene.picture, &givens, effort)? {
+    match make_proof(alloc, engine, scene.picture, &givens, effort)? {
         Made::Proof(_) => Ok(Some(Ending::Nothing)),
         Made::Other(picture) => Ok(Some(Ending::Found(picture))),
         Made::Undecided => Ok(None),

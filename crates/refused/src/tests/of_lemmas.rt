@@ -5,7 +5,7 @@ use super::of_certificates::PUZZLE;
 use super::{Memory, equal, first_of};
 use cert_check::check_cert;
 use cert_text::{Cert, CertFault, read_cert, write_cert};
-use lemma_proof::{Made, make_proof, with_single_steps};
+use lemma_proof::{EFFORT, Made, make_proof, with_single_steps};
 use line_facts::LineEngine;
 use line_settle::MaskEngine;
 use picture::{CellSet, Picture};
@@ -86,7 +86,7 @@ fn made(
     assert!(rt; picture.width() > 1 && picture.height() > 3);
     let mut givens = CellSet::empty();
     givens.put(3, 1);
-    make_proof(alloc, engine, picture, &givens)
+    make_proof(alloc, engine, picture, &givens, EFFORT)
 }
 
 // Makes a certificate of a puzzle that lines alone do not settle, and checks it in both forms.
