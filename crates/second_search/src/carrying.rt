@@ -45,7 +45,7 @@ fn put_on(cells: &CellSet, other: &Picture, picture: &mut Picture)
     }
 }
 
-// Puts the colours of a picture on the cells of one row of another.
+// Copies the colours of `other` to `picture` in those of `cells` that lie in one row.
 fn put_row_on(cells: &CellSet, other: &Picture, picture: &mut Picture, row: u8)
     requires inside { LieInside cells.now other.now }
     requires in_rows { row < length picture.old }

@@ -110,8 +110,8 @@ struct Settled {
     changes: usize,
 }
 
-// Closes facts in which a cell was held, beginning with its two lines, or breaks this off once the engine has counted `until`
-// calls. None where a line is dead.
+// Closes facts in which a cell was held, beginning with its two lines, or stops with what it has once the engine has counted
+// `until` calls. None where a line is dead. Lines without a clue, or longer than the engine takes, are skipped.
 fn settle<E: LineEngine>(
     engine: &mut E,
     clues: &ClueBook,
