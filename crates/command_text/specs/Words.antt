@@ -4,7 +4,8 @@ use Rattle.std.specs.Prelude.{nat_eq}
 use Rattle.std.specs.Borrow.{Bor}
 use Rattle.std.specs.Cmp.Lexicographic.{pointwise}
 use Rattle.std.specs.List.{slice_split}
-pub use Rattle.picture.specs.Blanks.{is_blank, is_no_blank}
+unfoldable pub use Rattle.picture.specs.Blanks.{is_blank}
+pub use Rattle.picture.specs.Blanks.{is_no_blank}
 pub use Rattle.picture.specs.Numbers.{has_byte}
 
 -- words, or lines, or other texts: each by its bytes

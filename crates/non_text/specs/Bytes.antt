@@ -2,7 +2,8 @@
 use Rattle.std.specs.Prelude.{ℕ, Bool, true, false, ◌&&◌, List, [], ◌∷◌, take, drop, nat_le}
 use Rattle.std.specs.Prelude.{if◌then◌else◌}
 use Rattle.std.specs.List.{list_all, position_or_len}
-pub use Rattle.picture.specs.Blanks.{is_blank, is_no_blank}
+unfoldable pub use Rattle.picture.specs.Blanks.{is_blank}
+pub use Rattle.picture.specs.Blanks.{is_no_blank}
 
 abbrev pub is_lower : ℕ → Bool
 is_lower b = nat_le 97 b && nat_le b 122
