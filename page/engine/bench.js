@@ -121,8 +121,8 @@ export class Bench {
     while (this.queue.length) await this.queue.at(-1).done.catch(() => {});
   }
 
-  /** Takes a verdict from elsewhere, where the picture is still that of `state`. */
-  judged(state, verdict) {
+  /** Puts a verdict into the state and tells `judged`, unless `state` is no longer at hand: a stroke or another verdict came. */
+  takeVerdict(state, verdict) {
     if (this.state !== state) return;
     this.state = { ...state, verdict };
     tell('judged', this.state);
@@ -172,7 +172,7 @@ export class Bench {
     if (spent > FIRST_MS) this.splits = Math.max(1, Math.floor((splits * FIRST_MS) / spent));
     else if (verdict.word === 'undecided') this.splits = Math.min(FIRST_SPLITS, splits * 2);
     this.searched = state.picture;
-    this.judged(state, verdict);
+    this.takeVerdict(state, verdict);
   }
 
   async next() {

@@ -178,7 +178,7 @@ function drawPlayField() {
   pen.strokeRect(frame.x + play.at.col * side, frame.y + play.at.row * side, side, side);
 }
 
-// A mark in its colour; one that hardly stands out from cells without a mark has an edge that does. Background has a cross.
+// A mark in its colour. Unless `isPlain`, background has a cross, and a colour close to that of cells without a mark an edge.
 function drawPlayMark(surface, look, { mark, isPlain, x, y, wide, high }) {
   const { colours, maxval } = play.state;
   const at = LETTERS.indexOf(mark);

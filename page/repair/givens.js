@@ -83,7 +83,7 @@ export class Giving {
     this.check = () => limit.check(asker.questions);
   }
 
-  // The verdict's word where these cells are given. A second picture is a further set.
+  // The verdict's word where these cells are given. Each part in which a second picture differs is added to `sets`.
   async #word(given) {
     this.check();
     const { word, other } = await this.asker.ask(this.board.cells, given);

@@ -38,8 +38,9 @@ function findFree(masks, size, { colours }) {
   }
 }
 
-// The least place at which so many blocks end, and whether a block must keep away from the one before it.
-function findLeast({ lengths, colours }) {
+// Fills `least`: how many cells the first so many blocks need, with the gaps between them; and `gaps`: 1 where a block has the
+// colour of the one before it, else 0.
+function fillLeast({ lengths, colours }) {
   least[0] = 0;
   for (let block = 0; block < lengths.length; block++) {
     gaps[block] = block > 0 && colours[block] === colours[block - 1] ? 1 : 0;
@@ -114,7 +115,7 @@ function gather(masks, slack, { lengths, colours }, out) {
  */
 export function narrow(masks, size, clue, out) {
   out.fill(0, 0, size);
-  findLeast(clue);
+  fillLeast(clue);
   const slack = size - least[clue.lengths.length];
   if (slack < 0) return false;
   findFree(masks, size, clue);

@@ -175,7 +175,8 @@ function goToNextCell() {
   return goToNext((row, col) => map[row][col] === '?', phrase('view.noCellOpen'));
 }
 
-export function addKeys() {
+/** The actions that choose a colour. The first ten have keys of their own. */
+export function addColourActions() {
   for (let at = 0; at < MOST_COLOURS; at++) {
     addAction({ id: `colour-${at}`, name: phrase('view.colour', { at }), key: at < 10 ? String(at) : null, run: () => useColour(LETTERS[at]) });
   }

@@ -221,6 +221,7 @@ function aimedText(done) {
   return phrase('view.proposalsFoundChooseOne', { proposals: count, least: '', loose: '', see: howToSee() });
 }
 
+// What came of the search for repaints. `done` is its result, or null if it was ended before that.
 function foundText(done) {
   if (isGrade(fixing.goal)) return aimedText(done);
   const [best] = wholes();

@@ -62,7 +62,7 @@ function drawChanges(canvas, { state, cells = [], given = [] }, box) {
   }
 }
 
-// Places in groups that are near one another.
+// Places in groups: one is in the group of each that is fewer than APART rows and columns from it.
 function groupsOf({ columns }, places) {
   let groups = [];
   const isNear = (one, other) => Math.abs(Math.floor(one / columns) - Math.floor(other / columns)) < APART && Math.abs((one % columns) - (other % columns)) < APART;

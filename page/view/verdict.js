@@ -27,7 +27,7 @@ export const searches = new Searches({
   start: startEngine,
   seconds: secondsChosen,
   told: showTask,
-  judged: (verdict) => bench.judged(bench.state, verdict),
+  judged: (verdict) => bench.takeVerdict(bench.state, verdict),
   ended(name, why) {
     verdictView.ended = why;
     if (why === 'time' || why === 'stopped') showVerdict(bench.state);
