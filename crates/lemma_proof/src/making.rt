@@ -52,7 +52,7 @@ pub fn make_proof<E: LineEngine>(
     ensures calls { E.calls engine.old ≤ E.calls engine.new }
     ensures same_longest { E.longest engine.new ≡ E.longest engine.old }
 {
-    let turn = Turn::first_of(picture);
+    let turn = Turn::shared(picture);
     let laid = turn.laid(alloc, picture)?;
     let clues = ClueBook::of(alloc, &laid)?;
     match learn(

@@ -1,4 +1,4 @@
-//! The eight ways in which a picture can lie: proofs are sought in one of them, so that their size is the same in all.
+//! The eight ways in which a picture can lie: proofs are sought in one of them, so that they are as long for each.
 
 use cert_text::{CellNumber, CertLine, LineNumber, Literal};
 use picture::{Axis, CellSet, LineId, MAX_COLOURS, MAX_SIDE, Picture};
@@ -7,8 +7,14 @@ use std::alloc::{AllocError, Global};
 // How many ways there are.
 const WAYS: u8 = 8;
 
-/// One of the ways in which a picture can lie: its rows counted from the bottom, its columns from the right, and rows and columns
-/// exchanged, or not.
+// How many colours a picture can have.
+const COLOURS: usize = MAX_COLOURS as usize;
+
+// Of a colour that has no number yet.
+const NONE: u8 = u8::MAX;
+
+/// One of the ways in which a picture can lie: its rows counted from the bottom, its columns from the right, rows and columns
+/// exchanged, or not. Its colours but background have new numbers, from 1 in the order in which they come row by row.
 #[derive(Clone, Copy)]
 pub(crate) struct Turn {
     height: u8,
@@ -16,30 +22,64 @@ pub(crate) struct Turn {
     from_bottom: bool,
     from_right: bool,
     exchanges: bool,
+    // For each colour of the picture its new number.
+    numbers: [u8; COLOURS],
 }
 
 impl Turn {
-    // The way with a number: 0 is the picture as it is.
+    // The way with a number: 0 is the picture as it is, but for its colours.
     fn numbered(picture: &Picture, number: u8) -> Turn {
-        Turn {
+        let mut turn = Turn {
             height: picture.height(),
             width: picture.width(),
             from_bottom: number & 1 != 0,
             from_right: number & 2 != 0,
             exchanges: number & 4 != 0,
+            numbers: [NONE; COLOURS],
+        };
+        turn.number_colours(picture);
+        turn
+    }
+
+    fn number_colours(&mut self, picture: &Picture) {
+        let mut count = self.give(0, 0);
+        let (rows, columns) = self.size();
+        for row in 0..rows {
+            for col in 0..columns {
+                let next = colour(picture, self.cell(row, col));
+                count = self.give(next, count);
+            }
+        }
+        for unused in 0..MAX_COLOURS {
+            count = self.give(unused, count);
         }
     }
 
-    /// The way in which the picture's colours, row by row, come first in order, with the fewest rows.
-    pub(crate) fn first_of(picture: &Picture) -> Turn {
-        let mut first = Turn::numbered(picture, 0);
+    // Gives a colour that has none this number, and answers the next number.
+    fn give(&mut self, colour: u8, number: u8) -> u8 {
+        match self.numbers.get_mut(usize::from(colour)) {
+            Some(slot) if *slot == NONE => {
+                *slot = number;
+                number.saturating_add(1)
+            }
+            _ => number,
+        }
+    }
+
+    fn number(self, colour: u8) -> u8 {
+        self.numbers.get(usize::from(colour)).copied().unwrap_or(0)
+    }
+
+    /// The way that all turns of a picture share: with the fewest rows and, row by row, the greatest numbers of colours.
+    pub(crate) fn shared(picture: &Picture) -> Turn {
+        let mut shared = Turn::numbered(picture, 0);
         for number in 1..WAYS {
             let turn = Turn::numbered(picture, number);
-            if turn.is_before(first, picture) {
-                first = turn;
+            if turn.is_before(shared, picture) {
+                shared = turn;
             }
         }
-        first
+        shared
     }
 
     // How many rows and columns lie so.
@@ -51,7 +91,7 @@ impl Turn {
         }
     }
 
-    // Whether a picture that lies so comes before the one that lies in another way.
+    // Whether this way is taken before another one.
     fn is_before(self, other: Turn, picture: &Picture) -> bool {
         let (rows, columns) = self.size();
         if rows != other.size().0 {
@@ -59,10 +99,10 @@ impl Turn {
         }
         for row in 0..rows {
             for col in 0..columns {
-                let mine = colour(picture, self.cell(row, col));
-                let others = colour(picture, other.cell(row, col));
+                let mine = self.number(colour(picture, self.cell(row, col)));
+                let others = other.number(colour(picture, other.cell(row, col)));
                 if mine != others {
-                    return mine < others;
+                    return mine > others;
                 }
             }
         }
@@ -113,7 +153,8 @@ impl Turn {
         };
         for row in 0..laid.height() {
             for col in 0..laid.width() {
-                paint(&mut laid, (row, col), colour(picture, self.cell(row, col)));
+                let from = colour(picture, self.cell(row, col));
+                paint(&mut laid, row, col, self.number(from));
             }
         }
         Ok(laid)
@@ -121,16 +162,17 @@ impl Turn {
 
     /// The way back: a picture that lies so, laid in that way, is as it was.
     pub(crate) fn back(self) -> Turn {
-        if !self.exchanges {
-            return self;
+        let mut back = self;
+        for colour in 0..MAX_COLOURS {
+            if let Some(slot) = back.numbers.get_mut(usize::from(self.number(colour))) {
+                *slot = colour;
+            }
         }
-        Turn {
-            height: self.width,
-            width: self.height,
-            from_bottom: self.from_right,
-            from_right: self.from_bottom,
-            exchanges: true,
+        if self.exchanges {
+            (back.height, back.width) = (self.width, self.height);
+            (back.from_bottom, back.from_right) = (self.from_right, self.from_bottom);
         }
+        back
     }
 
     /// The places in which some cells lie.
@@ -148,20 +190,20 @@ impl Turn {
         laid
     }
 
-    /// Names in each step the picture's lines and cells that lie in the places which it named.
+    /// Names in each step the picture's lines, cells and colours that lie where it names some.
     pub(crate) fn raise(self, steps: &mut Vec<CertLine>) {
         for step in steps.iter_mut() {
             *step = match *step {
-                CertLine::Line(line) => CertLine::Line(self.numbered_line(line)),
-                CertLine::Dead(line) => CertLine::Dead(self.numbered_line(line)),
-                CertLine::Part(literal) => CertLine::Part(self.literal(literal)),
-                CertLine::Deny(literal) => CertLine::Deny(self.literal(literal)),
+                CertLine::Line(line) => CertLine::Line(self.raised_line(line)),
+                CertLine::Dead(line) => CertLine::Dead(self.raised_line(line)),
+                CertLine::Part(literal) => CertLine::Part(self.raised(literal)),
+                CertLine::Deny(literal) => CertLine::Deny(self.raised(literal)),
                 other => other,
             };
         }
     }
 
-    fn numbered_line(self, line: LineNumber) -> LineNumber {
+    fn raised_line(self, line: LineNumber) -> LineNumber {
         let line = self.line(LineId {
             axis: line.axis,
             at: place(line.number),
@@ -172,14 +214,20 @@ impl Turn {
         }
     }
 
-    fn literal(self, literal: Literal) -> Literal {
+    fn raised(self, literal: Literal) -> Literal {
         let (row, col) = self.cell(place(literal.cell.row), place(literal.cell.col));
+        let mut colours = 0;
+        for colour in 0..MAX_COLOURS {
+            if literal.colours >> (self.number(colour) & 15) & 1 == 1 {
+                colours |= 1 << colour;
+            }
+        }
         Literal {
             cell: CellNumber {
                 row: u16::from(row) + 1,
                 col: u16::from(col) + 1,
             },
-            colours: literal.colours,
+            colours,
         }
     }
 }
@@ -199,8 +247,8 @@ fn colour(picture: &Picture, cell: (u8, u8)) -> u8 {
 }
 
 // Paints a cell that the picture has.
-fn paint(picture: &mut Picture, cell: (u8, u8), colour: u8) {
-    if cell.0 < picture.height() && cell.1 < picture.width() && colour < MAX_COLOURS {
-        picture.set(cell.0, cell.1, colour);
+fn paint(picture: &mut Picture, row: u8, col: u8, colour: u8) {
+    if row < picture.height() && col < picture.width() && colour < MAX_COLOURS {
+        picture.set(row, col, colour);
     }
 }
