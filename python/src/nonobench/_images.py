@@ -390,7 +390,7 @@ def plain_words(text: bytes, most: int) -> list[bytes]:
 
 
 def _plain_samples(text: bytes, count: int, is_bits: bool) -> list[int]:
-    """The samples behind a header: where they are too many, one more than there are to be."""
+    """The samples behind a header, which the caller counts: fewer than `count`, or one more, if their number is wrong."""
     words = plain_words(text, count + 1)[: count + 1]
     _need(all(map(bytes.isdigit, words)))
     if is_bits:

@@ -88,15 +88,15 @@ def publish(puzzle: Puzzle, name: str) -> str:
     background = b"" if puzzle.background is None else puzzle.word() + b"\n"
     picture = re.sub(rb"#[^\r\n]*", b"", puzzle.text)  # comments of others are no part of it, and may say what was not judged
     parts = {"givens": puzzle.published, "background": background, "ppm": picture}
-    if all(_lies(f"{name}.{ending}", data) for ending, data in parts.items()):
+    if all(_is_there(f"{name}.{ending}", data) for ending, data in parts.items()):
         return ""
     for ending in reversed(parts):
         remove(f"{name}.{ending}")
     return next(filter(None, (_put("picture", f"{name}.{ending}", data) for ending, data in parts.items() if data)), "")
 
 
-def _lies(path: str, data: bytes) -> bool:
-    """Whether a part of what is published lies there, or nothing where there is none."""
+def _is_there(path: str, data: bytes) -> bool:
+    """Whether a file has exactly these bytes; of none, whether nothing has its name."""
     with contextlib.suppress(Unreadable):
         return bytes_of(path) == data != b""
     return data == b"" and not os.path.lexists(path)

@@ -83,8 +83,8 @@ def read_row(name: str, number: int, line: bytes) -> Row:
         raise no_row(name, number, str(error)) from None
 
 
-def content_before(rows: list[tuple[int, Row]], made: str, limit: str, to: Optional[str], published: Optional[str]) -> str:
-    """What the content of a file was when its rows were made; empty where they are to be made again."""
+def kept_digest(rows: list[tuple[int, Row]], made: str, limit: str, to: Optional[str], published: Optional[str]) -> str:
+    """The digest of a file whose rows can be kept if it is the same today; empty where they are to be made again."""
     if len({row.get("content") for _, row in rows}) > 1:  # some are newer: a run was stopped within the file
         return ""
     for _, row in rows:

@@ -26,7 +26,7 @@ class Progress:
         self._bar = None if is_quiet or not sys.stderr.isatty() else _bar()
 
     def expect(self, total: int) -> None:
-        """Tells how many files there are."""
+        """Takes the number of files."""
         self._total = total
         if self._bar is not None:
             self._bar.total = total

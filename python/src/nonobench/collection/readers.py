@@ -45,7 +45,7 @@ def ground_beside(held: bytes, whose: str) -> Ground:
 
 
 def bytes_of(path: str, whose: str = "", is_real: bool = True) -> bytes:
-    """The bytes of a regular file, told by words where it is not read; nothing waits. A real path is absolute, without a link."""
+    """The bytes of a regular file, or Unreadable; a pipe is not waited for. Links and relative paths are refused if `is_real`."""
     try:
         handle = os.open(path, os.O_NONBLOCK | os.O_CLOEXEC | (os.O_NOFOLLOW if is_real else 0))
         try:

@@ -15,7 +15,7 @@ from typing import Any, Callable, Iterator, NamedTuple, Optional
 from .._library import version
 from . import certificates
 from .arguments import Options, options_of
-from .earlier import Earlier, content_before, read_row, to_check
+from .earlier import Earlier, kept_digest, read_row, to_check
 from .finding import CHANGED, NONE, Names, Places, changed, find, folders_of, is_among, is_in_share, order_of, real_place
 from .outputs import CLOSED, Failure, Lines, Output, Sheet, Table, hold_streams, kept_folder, lines_of, telling
 from .progress import Progress
@@ -49,7 +49,7 @@ class Stopped(BaseException):
 
 @contextlib.contextmanager
 def whole() -> Iterator[None]:
-    """What is done within is done whole: a signal that comes meanwhile stops the run behind it."""
+    """Holds a signal back until what is done within has ended, and raises Stopped then."""
     Stopped.is_held = True
     try:
         yield
@@ -231,7 +231,7 @@ class Run:
             self._unread += found.unread
             to, published = (name and self._way(os.path.join(name, found.stem), shut) for name, shut in ((options.certify, NONE), (options.publish, read)))
             rows = [] if self._earlier is None else self._earlier.rows(found.name)
-            before = content_before(rows, settings.made, settings.limit, to, published)
+            before = kept_digest(rows, settings.made, settings.limit, to, published)
             rows = rows if before else []
             self._kept[number] = Kept(tuple((place, row["verdict"]) for place, row in rows), to, published, found.beside)
             beside = found.beside, found.givens, found.background
