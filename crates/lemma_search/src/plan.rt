@@ -139,8 +139,7 @@ impl<'a> Plan<'a> {
         Ok(())
     }
 
-    // Adds a step and, if it is a lemma, what is known of it. Lemmas must be added in the order of their numbers, from 0 without gaps:
-    // `lemmas` is indexed by number.
+    // Adds a step, and its lemma.
     fn add(&mut self, stage: Stage) -> Result<(), AllocError> {
         self.stages.push(stage)?;
         if let Stage::Lemma(_, hints) = stage {
