@@ -7,9 +7,12 @@ that die, hang or take too much. Each test names what must come out.
 import contextlib
 import fcntl
 import io
+import itertools
 import json
+import marshal
 import os
 import pty
+import random
 import resource
 import select
 import shutil
@@ -21,6 +24,7 @@ import time
 import unittest
 import unittest.mock
 import zlib
+from collections import Counter
 from pathlib import Path
 
 sys.path.insert(0, str(Path(__file__).resolve().parent))
@@ -1325,6 +1329,78 @@ class Outputs(Case):
         first.communicate(timeout=PATIENCE)
         # Parts of one collection share the folder of certificates.
         self.run_audit("site/one.ppm", "--shard", "2/2", "--certify", "certs", status=0)
+
+
+def task_of(number, name):
+    return serving.Task(number, name, "", (), None, None, None, "", 1, serving.FULL)
+
+
+class Packs(unittest.TestCase):
+    """What is handed to processes, which are none here."""
+
+    def pool(self, tasks, jobs, **more):
+        """A pool whose processes are begun, and do so."""
+        parts = {"__init__": lambda *_, **__: None, "is_sending": False, "send": lambda *_: None, "status": lambda _: 0, "is_there": lambda _: False}
+        patch = unittest.mock.patch.multiple(workers.Child, create=True, **{**parts, **more})
+        patch.start()
+        self.addCleanup(patch.stop)
+        pool = workers.Pool(running.settings_of(arguments.options_of(["."])), jobs, 9.0)
+        pool.start()
+        pool._tasks, pool._has_more = iter(tasks), True
+        return pool
+
+    def test_a_process_has_one_set_at_a_time(self):
+        names = ["0.ppm", "1.ppm", "2.xml", "3.XML", "4.ppm", "5.ppm"]
+        pool = self.pool(map(task_of, range(6), names), 1)
+        [hand] = pool._hands
+        hand.cost, handed = 1e-4, []
+        for _ in names:
+            pool._feed()
+            handed.append([task.number for task in hand.tasks])
+            hand.tasks.popleft()
+        self.assertEqual(handed, [[0, 1, 2], [1, 2], [2], [3], [4, 5], [5]])
+
+    def test_a_set_costs_what_all_its_puzzles_took(self):
+        said = [(1, [b"more", b"unique", b'{"puzzle":1}', b"", b""]), (1, [b"last", b"unique", b"{}", b"", b""])]
+        pool = self.pool([task_of(1, "1.xml")], 1, answers=lambda _: [said.pop(0)])
+        [hand] = pool._hands
+        with unittest.mock.patch.object(workers.time, "monotonic", side_effect=itertools.count(0.0, 100.0)):
+            pool._feed()
+            self.assertEqual([len([*pool._read(hand)]) for _ in range(2)], [1, 1])
+        self.assertGreater(hand.cost, 90)
+
+    def test_while_it_is_full_what_others_wait_for_alone_is_begun(self):
+        """And each file is answered whole in the end, whichever processes die, and whatever is handed out once more."""
+        chance, done, rows, begun = random.Random(1), set(), Counter(), []
+
+        def is_full():
+            return sum(count for number, count in rows.items() if number not in done and number > len(done)) > 3
+
+        def send(_hand, _number, *parts):
+            pack = marshal.loads(parts[0])
+            if isinstance(pack, list):
+                begun.append(([task[0] for task in pack], is_full(), min({*range(60)}.difference(done))))
+
+        def answers(hand):
+            if not hand.is_ready:
+                return [(0, [b"ready", b"", b"", b"", b""])]
+            if not chance.randrange(5):
+                raise EOFError
+            task = hand.tasks[0]
+            kind, verdict = (b"more", b"unique") if chance.randrange(6) else (b"last", b"unique")
+            return [(task.number, [kind, verdict, b'{"puzzle":%d}' % task.start, b"", b""])]
+
+        pool = self.pool([], 3, send=send, answers=answers)
+        tasks = [task_of(at, f"{at}.{chance.choice(['xml', 'ppm'])}") for at in range(60)]
+        with unittest.mock.patch.object(workers, "waited", lambda hands, _: [hand for hand in hands if hand.tasks or not hand.is_ready]):
+            for looks, answer in enumerate(pool.answers(iter(tasks), is_full)):
+                self.assertLess(looks, 99_999, "it stands still")
+                if answer is not None:
+                    rows[answer.number] += 1
+                    done.update([answer.number] * answer.is_last)
+        self.assertEqual(done, {*range(60)})
+        self.assertGreater(sum(is_full for _, is_full, _ in begun), 9)
+        self.assertEqual([(pack, [first]) for pack, is_full, first in begun if is_full and pack != [first]], [])
 
 
 class Processes(Case):

@@ -2,6 +2,7 @@
 
 from __future__ import annotations
 
+import heapq
 import itertools
 import json
 import marshal
@@ -50,7 +51,7 @@ class Hand(Child):
         self.tasks: deque[Task] = deque()
         self.is_ready = False
         self.is_left = False  # it begins no other task: what waits here is handed to others
-        self.since = time.monotonic()  # the last sign of life
+        self.since = self.begun = time.monotonic()  # the last sign of life; and when the file at hand was begun
         self.quiet = 0.0  # seconds before this one that no puzzle was charged for
         self.cost = PACK_SECONDS  # seconds of a file, about
         self.is_leaving = False  # whether it has told that it ends
@@ -77,7 +78,7 @@ class Pool:
         self._seconds = seconds
         self._hands: list[Hand] = []
         self._hung: list[Hand] = []  # those that could not be ended
-        self._again: deque[Task] = deque()
+        self._again: list[Task] = []  # a heap: what others wait for goes first
         self._died: set[tuple[int, int]] = set()
         self._failures = 0
         self._tasks: Iterator[Task] = iter(())
@@ -89,7 +90,9 @@ class Pool:
         self._hands += [Hand(self._settings) for _ in range(self._jobs - len(self._hands))]
 
     def answers(self, tasks: Iterator[Task], is_full: Callable[[], bool] = bool) -> Iterator[Optional[Answer]]:
-        """What is answered to tasks, those of a file in order; nothing, from time to time. While it is full no more are begun."""
+        """What is answered to tasks, those of a file in order; nothing, from time to time. While it is full none is begun but
+        the first of those that are not answered.
+        """
         self._tasks, self._has_more, self._is_full = tasks, True, is_full
         self.start()
         while True:
@@ -115,32 +118,33 @@ class Pool:
         for hand in self._hands:
             size = 1 if self._again else max(1, min(MOST_PACKED, int(PACK_SECONDS / hand.cost)))
             is_alone = any((task.number, task.start) in self._died for task in hand.tasks)
-            if hand.is_left or hand.is_sending or is_alone or len(hand.tasks) > size // 2:
+            if hand.is_left or hand.is_sending or is_alone or len(hand.tasks) > size // 2 or any(map(_is_set, hand.tasks)):
                 continue
             pack = self._pack(size)
             if pack:
                 if not hand.tasks:
-                    hand.since = time.monotonic()
+                    hand.since = hand.begun = time.monotonic()
                 hand.tasks.extend(pack)
                 hand.send(0, marshal.dumps([tuple(task) for task in pack]))
 
     def _pack(self, size: int) -> list[Task]:
-        """The next tasks, so many at most, and with no more than some bytes of kept rows."""
+        """The next tasks, so many at most, with no more than some bytes of kept rows, and nothing behind a set."""
         pack: list[Task] = []
         weight = 0
         for task in itertools.islice(iter(self._next, None), size):
             pack.append(task)
             weight += sum(len(text) for _, text, _ in task.kept)
-            if weight > MOST_WEIGHT:
+            if weight > MOST_WEIGHT or _is_set(task):
                 break
         return pack
 
     def _next(self) -> Optional[Task]:
-        if self._again:
-            return self._again.popleft()
-        if not self._has_more or self._is_full():
+        begun = [hand.tasks[0].number for hand in self._hands if hand.tasks]
+        if self._is_full() and begun and not (self._again and self._again[0].number < min(begun)):
             return None
-        task = next(self._tasks, None)
+        if self._again:
+            return heapq.heappop(self._again)
+        task = next(self._tasks, None) if self._has_more else None
         self._has_more = task is not None
         return task
 
@@ -156,14 +160,15 @@ class Pool:
         for number, (kind, verdict, text, certificate, _) in answers:
             yield from self._hear(hand, number, kind, verdict, text, certificate)
         if before > len(hand.tasks):
-            hand.cost = 0.5 * hand.cost + 0.5 * (now - hand.since) / (before - len(hand.tasks))
+            hand.cost = 0.5 * hand.cost + 0.5 * (now - hand.begun) / (before - len(hand.tasks))
+            hand.begun = now
         # What is known of a puzzle before all is made gives it no more time.
         if any(parts[0] != "known" for _, parts in answers):
             hand.since = now
 
     def _hear(self, hand: Hand, number: int, kind: str, verdict: str, text: str, certificate: str) -> Iterator[Answer]:
         if kind == "ready":
-            hand.is_ready, self._failures = True, 0
+            hand.is_ready, hand.begun, self._failures = True, time.monotonic(), 0
             return
         if not hand.tasks or number != hand.tasks[0].number:
             return
@@ -189,7 +194,7 @@ class Pool:
         if answer.is_last or task.mode == GLANCE:
             hand.tasks.popleft()
             if not answer.is_last:
-                self._again.appendleft(task._replace(start=task.start + 1, mode=FULL, spent=0.0, used=used, has_more=False))
+                heapq.heappush(self._again, task._replace(start=task.start + 1, mode=FULL, spent=0.0, used=used, has_more=False))
         else:
             hand.tasks[0] = task._replace(start=json.loads(answer.text)["puzzle"] + 1, used=used)
 
@@ -208,7 +213,7 @@ class Pool:
                 hand.leave()
             elif len(hand.tasks) > 1 and hand.is_left and quiet > STUCK + TICK:  # it began no other before it was told
                 while len(hand.tasks) > 1:
-                    self._again.appendleft(hand.tasks.pop())
+                    heapq.heappush(self._again, hand.tasks.pop())
 
     def _bound(self, task: Task) -> float:
         """The seconds that a puzzle has. One that has had them all is looked at in a few more."""
@@ -243,7 +248,8 @@ class Pool:
             task = task._replace(used=task.used + time.monotonic() - hand.since)
             why = late or (f"its process ended by signal {-status}" if status < 0 else f"its process ended with status {status}")
             yield from self._blame(hand, task, why, bool(late))
-        self._again.extendleft(reversed(tasks))
+        for task in tasks:
+            heapq.heappush(self._again, task)
 
     def _is_over(self, task: Task) -> bool:
         """Whether the puzzles of a file have taken all the time that one file has."""
@@ -254,7 +260,7 @@ class Pool:
         is_tried = is_late or (task.number, task.start) in self._died
         is_unread = hand.has_more is None and (task.start > 1 or hand.is_reading)  # the puzzle was not reached
         if task.before:  # kept rows were compared, and no puzzle was begun: all are judged anew
-            self._again.appendleft(task._replace(used=0.0, before="", kept=()))
+            heapq.heappush(self._again, task._replace(used=0.0, before="", kept=()))
         elif task.start > 1 and self._is_over(task) or is_tried and task.mode == FULL and is_unread:
             over = f"the puzzles before it have taken more than {MOST_TIMES * (self._seconds or 0):g} seconds" if self._is_over(task) else why
             row: Row = {"file": task.name, "puzzle": task.start, "verdict": "error", "error": f"{over}: neither it nor those behind it are judged"}
@@ -267,10 +273,10 @@ class Pool:
                 row["seconds"] = self._seconds
             yield from self._give_up(task, row, kind == "more", certificate)
         elif is_late and task.mode == FULL:
-            self._again.appendleft(task._replace(mode=GLANCE, spent=self._seconds or 0.0, has_more=bool(hand.has_more)))
+            heapq.heappush(self._again, task._replace(mode=GLANCE, spent=self._seconds or 0.0, has_more=bool(hand.has_more)))
         elif not is_tried:
             self._died.add((task.number, task.start))
-            self._again.appendleft(task)
+            heapq.heappush(self._again, task)
         else:
             has_more = hand.has_more or task.has_more
             row = {"file": task.name, **place_of(task.start, has_more)}
@@ -281,4 +287,9 @@ class Pool:
         """Tells the row of a puzzle whose process is gone. The puzzles after it are still to come."""
         yield Answer(task.number, not has_more, row["verdict"], text_of(row), certificate)
         if has_more:
-            self._again.appendleft(task._replace(start=row["puzzle"] + 1, mode=FULL, spent=0.0, has_more=False))
+            heapq.heappush(self._again, task._replace(start=row["puzzle"] + 1, mode=FULL, spent=0.0, has_more=False))
+
+
+def _is_set(task: Task) -> bool:
+    """Whether a file may hold several puzzles, and so have rows without an end in sight."""
+    return task.name.lower().endswith(".xml")
