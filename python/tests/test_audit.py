@@ -1829,6 +1829,28 @@ class Again(Case):
         self.assertEqual(place.read_text().splitlines(), texts)
         self.assertEqual([line[:5] for line in (self.folder / "rows.csv").read_text().splitlines()[1:]], ["0.ppm", "1.ppm", "2.ppm"])
 
+    def test_rows_that_wait_are_written_once_and_not_held(self):
+        texts = [json.dumps({"file": "b.xml", "puzzle": at, "more": at < 9, "verdict": "error", "error": "x" * 9999}) for at in range(1, 10)]
+        run = running.Run(arguments.Options([], jsonl=str(self.folder / "rows"), csv=str(self.folder / "sheet"), is_quiet=True))
+        run._open()
+        run._kept = {at: running.Kept((), None) for at in (0, 1)}
+        sizes = []
+
+        def answers():
+            for at, text in enumerate(texts, 1):
+                yield workers.Answer(1, at == 9, "error", text)
+                yield from [None] * 9
+                sizes.append(run._size)
+            yield workers.Answer(0, True, "none", "")
+
+        with unittest.mock.patch.object(running, "BEHIND", -1.0), unittest.mock.patch.object(run, "_placed", wraps=run._placed) as placed:
+            run._take_all(answers())
+        self.assertLess(sizes[-1], 9999)
+        self.assertGreater(sizes[-1], 9 * 100, "what is kept of each counts")
+        self.assertEqual((placed.call_count, run._size, run._close(True)), (9, 0, []))
+        self.assertEqual((self.folder / "rows").read_text().splitlines(), texts)
+        self.assertEqual((self.folder / "sheet").read_text().count("x" * 9999), 9)
+
     def test_an_answer_that_is_lost_is_told(self):
         place, text = self.folder / "rows.jsonl", json.dumps({"file": "1.ppm", "verdict": "error", "error": "x"})
         run = running.Run(arguments.Options([], jsonl=str(place), is_quiet=True))

@@ -228,6 +228,8 @@ class Lines(Sink):
             if not self.has_places:
                 raise Failure(f"{name}: its rows cannot be read again")
             self._end = _cut_torn_line(self._output.file, name)
+        # The file itself, to be read, whatever has its name by now.
+        self.file = open(f"/proc/self/fd/{self._output.file.fileno()}" if self.has_places else os.devnull, "rb")
 
     def put(self, text: str, row: Row) -> None:
         """Puts a new row."""
@@ -240,6 +242,13 @@ class Lines(Sink):
         self._output.put(line)
         return place
 
+    def text(self, place: int) -> str:
+        """The row that was written at a place."""
+        self._output.flush()
+        with telling(self._output.name):
+            self.file.seek(place)
+            return self.file.readline().decode("ascii")[:-1]
+
     def keep(self, place: int) -> None:
         """Takes the row at a place as the next one."""
         self._order.append(place)
@@ -247,21 +256,18 @@ class Lines(Sink):
     def close(self, is_whole: bool) -> None:
         """Ends the file. Where all puzzles were answered, it has their rows alone, in order."""
         self._output.flush()
-        if is_whole and self.has_places:
-            self._put_in_order()
+        with self.file:
+            if is_whole and self.has_places:
+                self._put_in_order()
         self._output.close(is_whole)
 
     def _put_in_order(self) -> None:
         if all(before < after for before, after in zip(self._order, self._order[1:])) and len(self._order) == _count(self._output.file):
             return
-        with self._output.replaced() as new, self.again() as lines:
+        with self._output.replaced() as new:
             for place in self._order:
-                lines.seek(place)
-                new.put(lines.readline())
-
-    def again(self) -> BinaryIO:
-        """The file itself, to be read, whatever has its name by now."""
-        return open(f"/proc/self/fd/{self._output.file.fileno()}", "rb")
+                self.file.seek(place)
+                new.put(self.file.readline())
 
 
 def _count(file: BinaryIO) -> int:

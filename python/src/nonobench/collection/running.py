@@ -25,6 +25,7 @@ from .tally import ERRORS, Tally
 from .workers import Answer, Broken, Pool
 
 MOST_WAITING = 64 << 20  # bytes of rows that wait for one before them
+EACH = 256  # bytes of what is kept of a row without its text, about
 READ = 5.0  # seconds that who reads has for what is written when a run is stopped
 BEHIND = 1.0  # seconds after which rows that wait for one before them are in the file of rows
 
@@ -119,6 +120,7 @@ class Run:
         self._earlier: Optional[Earlier] = None
         self._kept: dict[int, Kept] = {}
         self._waiting: dict[int, list[Answer]] = {}
+        self._fresh: dict[int, int] = {}  # of files whose rows came since the last look at them, the first of these
         self._complete: set[int] = set()
         self._size = 0
         self._next = 0
@@ -193,7 +195,7 @@ class Run:
             self._lines = Lines(options.jsonl, options.is_resumed, folders.get(options.jsonl))
             self._sinks.append(self._lines)
             if options.is_resumed:
-                self._earlier = Earlier(options.jsonl, self._stack.enter_context(self._lines.again()))
+                self._earlier = Earlier(options.jsonl, self._lines.file)
         if options.csv is not None:
             self._sinks.append(Sheet(options.csv, folders.get(options.csv)))
         if options.html is not None:
@@ -307,8 +309,10 @@ class Run:
             raise Failure(f"files that were not answered, and have no rows: {len(self._kept)}")
 
     def _take(self, answer: Answer) -> None:
-        self._waiting.setdefault(answer.number, []).append(answer)
-        self._size += len(answer.text) + len(answer.certificate)
+        waiting = self._waiting.setdefault(answer.number, [])
+        self._fresh.setdefault(answer.number, len(waiting))
+        waiting.append(answer)
+        self._size += self._size_of(answer)
         told = [verdict for _, verdict in self._kept[answer.number].rows] if answer.verdict == "same" else [answer.verdict]
         self._progress.count(told, answer.is_last)
         if answer.is_last:
@@ -320,11 +324,11 @@ class Run:
 
     def _tick(self) -> None:
         """Does what is done now and then: rows of the file that comes next are shown before it is complete."""
-        for answer in self._waiting.pop(self._next, ()):
-            self._deliver_answer(answer)
+        self._deliver_waiting(self._next)
         if self._lines is not None and self._lines.has_places and time.monotonic() - self._since > BEHIND:
-            for answers in self._waiting.values():
-                answers[:] = [self._placed(answer, self._lines) for answer in answers]
+            for number, first in self._fresh.items():
+                self._waiting[number][first:] = [self._placed(answer, self._lines) for answer in self._waiting[number][first:]]
+            self._fresh.clear()
         for sink in self._sinks:
             sink.flush()
         self._progress.tick()
@@ -332,29 +336,36 @@ class Run:
             raise Failure(CLOSED)
 
     def _placed(self, answer: Answer, lines: Lines) -> Answer:
-        """An answer whose row is in the file of rows, though rows before it are missing there: it is put in order in the end."""
-        if answer.place is not None or answer.verdict in ("same", "none"):
+        """An answer whose row is in the file of rows alone, though rows before it are missing there: it is put in order in the end."""
+        if answer.verdict in ("same", "none"):
             return answer
-        text = self._text_of(answer)
-        self._size += len(text) - len(answer.text)
-        return answer._replace(text=text, certificate="", place=lines.place(text))
+        placed = answer._replace(text="", certificate="", place=lines.place(self._text_of(answer)))
+        self._size += self._size_of(placed) - self._size_of(answer)
+        return placed
+
+    def _size_of(self, answer: Answer) -> int:
+        """The bytes that an answer takes while it waits, about, with the places of rows that are as they were."""
+        return EACH * (1 + len(self._kept[answer.number].rows)) + len(answer.text) + len(answer.certificate)
 
     def _text_of(self, answer: Answer) -> str:
         """The row of an answer, whose certificate is written where it came with it."""
-        if not answer.certificate:
-            return answer.text
-        self._size -= len(answer.certificate)
-        return certificates.delivered(answer, self._kept[answer.number].to)
+        if answer.place is not None and self._lines is not None:
+            return self._lines.text(answer.place)
+        return answer.text if not answer.certificate else certificates.delivered(answer, self._kept[answer.number].to)
 
     def _release(self, number: int) -> None:
         """Delivers the rows of a file."""
-        for answer in self._waiting.pop(number, ()):
-            self._deliver_answer(answer)
+        self._deliver_waiting(number)
         self._complete.discard(number)
         self._kept.pop(number, None)
 
+    def _deliver_waiting(self, number: int) -> None:
+        self._fresh.pop(number, None)
+        for answer in self._waiting.pop(number, ()):
+            self._deliver_answer(answer)
+
     def _deliver_answer(self, answer: Answer) -> None:
-        self._size -= len(answer.text)
+        self._size -= self._size_of(answer)
         kept = self._kept[answer.number]
         if answer.verdict == "same":
             assert self._earlier is not None
