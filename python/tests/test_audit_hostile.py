@@ -6,6 +6,7 @@ that die, hang or take too much. Each test names what must come out.
 
 import contextlib
 import fcntl
+import importlib.util
 import io
 import itertools
 import json
@@ -13,6 +14,7 @@ import marshal
 import os
 import pty
 import random
+import re
 import resource
 import select
 import shutil
@@ -1679,6 +1681,20 @@ class Processes(Case):
         done = self.run_audit("site", NONOBENCH_LIBRARY="/nowhere/libnonobench.so")
         self.assertEqual(done.returncode, 3)
         self.assertIn("cannot load /nowhere/libnonobench.so; build it with c/build, or set NONOBENCH_LIBRARY to its path", done.stderr)
+
+    def test_libraries_to_which_a_variable_leads(self):
+        """`python3 -m nonobench` says of them what holds in processes, too, which load nothing from the current folder."""
+        self.put("set.xml", webpbn(UNIQUE))
+        (self.folder / "lib").mkdir()
+        found, env = importlib.util.find_spec("defusedxml").submodule_search_locations[0], self.env()
+        for place, word in (("lib", "installed"), (".", "not installed (pip install defusedxml)")):
+            os.symlink(found, self.folder / place / "defusedxml")
+            env["PYTHONPATH"] = os.pathsep.join([f"{ROOT}/python/src", place])
+            with self.subTest(place), unittest.mock.patch.object(self, "env", lambda env=env: env):
+                said = subprocess.run([sys.executable, "-S", "-m", "nonobench"], cwd=self.folder, env=env, capture_output=True, text=True, check=True)
+                self.assertRegex(said.stdout, rf"\n  defusedxml .* {re.escape(word)}\n")
+                self.by_script([], "site", "--jsonl", "rows", flags=["-S"])
+                self.assertEqual("error" in self.read("rows")["site/set.xml"], place == ".")
 
     def test_libraries_that_are_not_there(self):
         self.put("one.ppm", p3(UNIQUE))

@@ -3,9 +3,11 @@
 import importlib.metadata
 import importlib.util
 import os
+import sys
 import sysconfig
 
 import nonobench
+from nonobench._process import folders
 
 LIBRARIES = (
     ("Pillow", "PIL", "images as puzzles"),
@@ -41,4 +43,5 @@ def _version(name: str) -> str:
 
 
 if __name__ == "__main__":
+    sys.path[:] = folders()  # the processes of an audit look there
     main()

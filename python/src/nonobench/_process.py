@@ -61,6 +61,11 @@ def uninterrupted(call: Callable[[], Made]) -> Made:
     return made[0]
 
 
+def folders() -> list[str]:
+    """Where this program finds libraries, but for the current folder, whose files may be a stranger's."""
+    return [way for way in sys.path if os.path.exists(way or ".") and not os.path.samefile(way or ".", ".")]
+
+
 class Child:
     """A process that answers, and the stream to it, which is its standard input. It is ended with this object.
 

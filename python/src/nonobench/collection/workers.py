@@ -7,12 +7,11 @@ import itertools
 import json
 import marshal
 import os
-import site
 import time
 from collections import deque
 from typing import Callable, Iterator, NamedTuple, Optional
 
-from .._process import Child, waited
+from .._process import Child, folders, waited
 from .certificates import new_name, remove
 from .rows import Row, text_of, unfinished
 from .serving import FULL, GLANCE, Settings, Task, place_of
@@ -47,7 +46,7 @@ class Hand(Child):
     """One process, and what it was handed."""
 
     def __init__(self, settings: Settings) -> None:
-        super().__init__("collection.serving", settings.memory << 20, folders=[site.getusersitepackages()] if site.ENABLE_USER_SITE else [])
+        super().__init__("collection.serving", settings.memory << 20, folders=folders())
         self.tasks: deque[Task] = deque()
         self.is_ready = False
         self.is_left = False  # it begins no other task: what waits here is handed to others
