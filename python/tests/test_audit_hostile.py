@@ -28,6 +28,7 @@ import unittest.mock
 import zlib
 from collections import Counter
 from pathlib import Path
+from types import SimpleNamespace
 
 sys.path.insert(0, str(Path(__file__).resolve().parent))
 from audit_parts import AMBIGUOUS, CERT, PATIENCE, ROOT, UNIQUE, Case, chequered, eventually, p3, webpbn  # noqa: E402
@@ -38,6 +39,7 @@ from test_audit import p3_of_letters  # noqa: E402
 from nonobench import _process  # noqa: E402
 from nonobench.collection import arguments, certificates, cluster, finding, outputs, readers, report, running, serving, workers  # noqa: E402
 from nonobench.collection.outputs import Failure, Output  # noqa: E402
+from nonobench.collection.puzzles import Unreadable  # noqa: E402
 
 SIGN = b"\x89PNG\r\n\x1a\n"
 MEBIBYTE = bytes(1 << 20)
@@ -1331,6 +1333,49 @@ class Outputs(Case):
         first.communicate(timeout=PATIENCE)
         # Parts of one collection share the folder of certificates.
         self.run_audit("site/one.ppm", "--shard", "2/2", "--certify", "certs", status=0)
+
+
+class Numbered:
+    """An entry of a folder whose files are numbered anew at each look, as some file systems do."""
+
+    numbers = itertools.count()
+
+    def __init__(self, entry):
+        self.entry, self.name, self.is_dir, self.is_symlink = entry, entry.name, entry.is_dir, entry.is_symlink
+
+    def __fspath__(self):
+        return self.entry.path
+
+    def stat(self, follow_symlinks=True):
+        about = self.entry.stat(follow_symlinks=follow_symlinks)
+        times = {name: getattr(about, name) for name in ("st_size", "st_mtime_ns", "st_ctime_ns")}
+        return SimpleNamespace(st_ino=next(self.numbers), **times)
+
+
+class Changes(Case):
+    """Folders of the operator's that change, or seem to."""
+
+    def test_files_that_are_numbered_anew_are_the_same(self):
+        self.put("one.ppm", p3(AMBIGUOUS))
+        (self.folder / "told").mkdir()
+        givens = self.folder / "told" / "one.givens"
+        givens.write_text("given 1 1\n")
+        places, real = finding.Places(None, str(givens.parent)), os.scandir
+
+        @contextlib.contextmanager
+        def scandir(way):
+            with real(way) as entries:
+                yield map(Numbered, entries)
+
+        with unittest.mock.patch.object(os, "scandir", scandir):
+            [found] = finding.find([str(self.site)], places)
+            self.assertEqual((found.givens, [*finding.changed()]), (str(givens), []))
+        givens.write_text("given 2 2\ngiven 1 1\n")
+        finding._listed.cache_clear()
+        finding._folder.cache_clear()
+        [found] = finding.find([str(self.site)], places, False)
+        with self.assertRaisesRegex(Unreadable, f"^its givens: the folder {givens.parent}/ changed$"):
+            readers.bytes_of(found.givens, "its givens: ")
 
 
 def task_of(number, name):

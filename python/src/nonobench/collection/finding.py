@@ -216,7 +216,7 @@ def _scanned(folder: str, ends: tuple[str, ...]) -> Listed:
             kept = [one for one in every if not ends or one[1] and FOLDERS in ends or one[0].is_symlink() or one[0].name.lower().endswith(ends)]
             # Of a folder its name counts, and too long a path has no more.
             abouts = (one.stat(follow_symlinks=False) if ends and not is_folder and os.path.lexists(one) else None for one, is_folder in kept)
-            return frozenset((one.name, is_folder, about and (about.st_ino, about.st_size, about.st_mtime_ns, about.st_ctime_ns)) for (one, is_folder), about in zip(kept, abouts))
+            return frozenset((one.name, is_folder, about and (about.st_size, about.st_mtime_ns, about.st_ctime_ns)) for (one, is_folder), about in zip(kept, abouts))
     except (FileNotFoundError, NotADirectoryError):
         while folder and not os.path.lexists(folder):
             folder = os.path.dirname(folder)
