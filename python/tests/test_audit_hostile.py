@@ -587,7 +587,7 @@ class Strangers(Case):
         for at, (names, without) in enumerate((
             ("book.xml book.2.xml", ""), ("a.xml a.xml.ppm a.3.ppm/z.ppm", ""), ("a.xml a.1.cert/z.ppm a.2.cert/z.ppm", ""), ("a.ppm a.cert/z.ppm", "a.ppm"),
             ("a.ppm a.xml a.xml.gif", "a.xml.gif"), ("a.ppm a.gif a.ppm.xml", "a.ppm.xml"), ("a.xml a.givens/z.ppm a.xml.2.gif", "a.xml.2.gif"),
-            ("a.xml a.ppm a.xml.xml", "a.xml.xml"), ("a.ppm a.ppm.ppm a.3.ppm a.3.ppm.xml", ""),
+            ("a.xml a.ppm a.xml.xml", "a.xml.xml"), ("a.ppm a.ppm.ppm a.3.ppm a.3.ppm.xml", ""), ("a.ppm a.ppm.ppm a.ppm.ppm.ppm", ""),
         )):
             for name in names.split():
                 self.put(f"{at}/{name}", "")
@@ -599,6 +599,15 @@ class Strangers(Case):
                 read = {name: [Path(way).read_text() for number, way in one.beside if number == of] for name, (one, of) in puzzles(place).items()}
                 with self.subTest(names, place=place):
                     self.assertEqual(read, {name: [name] if name in called else [] for name in read})
+
+    def test_in_a_site_each_certificate_is_of_the_picture_with_its_name(self):
+        """Whatever the others are called, as check-site has it."""
+        names = ["a", "a.ppm", "a.ppm.ppm", "a.ppm.ppm.ppm", "b.ppm", "b.ppm.ppm"]
+        for name in names:
+            self.put(f"{name}.ppm", "")
+            self.put(f"{name}.cert", "")
+        read = {os.path.basename(one.path): [os.path.basename(way) for _, way in one.beside] for one in finding.find([str(self.site)])}
+        self.assertEqual(read, {f"{name}.ppm": [f"{name}.cert"] for name in names})
 
     def test_a_folder_behind_a_link_that_leads_nowhere_is_not_missing(self):
         """What the operator meant to be there is not read, and that is told of each puzzle."""

@@ -346,13 +346,15 @@ def _certificates(folder: Folder, name: str, stem: str) -> list[Named]:
 
 def _is_others(folder: Folder, name: str, called: str) -> bool:
     """Whether a certificate that a puzzle's could be called like is another's: of that with this whole name, but beside puzzles of the only
-    one with this stem, if the former has its stem for itself.
+    one with this stem, if the former has its stem for itself, or a certificate that is called after it.
     """
     whole, number = _whole(folder, called), _NUMBER.fullmatch(called)
     if folder.is_held_apart or not whole:
         return whole not in ("", name) or not folder.is_held_apart and called != os.path.splitext(name)[0] and folder.stems[called] > 0
     is_stem = folder.stems[called] == 1 or number is not None and number[1] in folder.sets and folder.stems[number[1]] == 1
-    return (whole == name) == (is_stem and _is_own(folder, whole))
+    of = os.path.splitext(whole)[0]
+    is_other = _is_own(folder, whole) or _is_alone(folder, whole) and of in folder.held and not _is_others(folder, whole, of)
+    return (whole == name) == (is_stem and is_other)
 
 
 def _is_alone(folder: Folder, name: str) -> bool:
