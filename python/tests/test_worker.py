@@ -15,6 +15,7 @@ import threading
 import time
 import types
 import unittest
+import unittest.mock
 from pathlib import Path
 
 sys.path.insert(0, str(Path(__file__).resolve().parent))
@@ -148,6 +149,12 @@ class Workers(unittest.TestCase):
         wanted = {words: nonobench.verdict(*words) for words in asked}
         for words, verdict in answers:
             self.assertEqual(verdict, wanted[words])
+
+    def test_a_program_that_is_no_python(self):
+        for program in ("", None, "/bin/true", "/bin/sh"):
+            with self.subTest(program), unittest.mock.patch.object(sys, "executable", program):
+                with self.assertRaisesRegex(OSError, f"^a Worker needs a Python in sys.executable, and not {program!r}$"):
+                    nonobench.Worker().clues(TILE)
 
 
 class Interrupt(BaseException):

@@ -5,7 +5,9 @@ from __future__ import annotations
 import math
 import operator
 import os
+import select
 import signal
+import sys
 import threading
 import time
 from types import TracebackType
@@ -19,6 +21,7 @@ from ._process import Child, uninterrupted, waited
 _GRACE = 2
 _MOST_ALARM = 2**31 - 1
 _LONGEST = 3600.0  # seconds that the system is asked to wait
+_NO_PYTHON = "a Worker needs a Python in sys.executable, and not {!r}"
 
 
 class Worker(Questions):
@@ -49,6 +52,8 @@ class Worker(Questions):
         self._number = 0
         if os.name == "nt":
             raise OSError("a Worker needs Linux")
+        if not sys.executable:
+            raise OSError(_NO_PYTHON.format(sys.executable))
         version()  # so that it is told here where there is no library
         self._begin()
 
@@ -105,6 +110,16 @@ class _Process(Child):
 
     def __init__(self, memory: int) -> None:
         super().__init__("_serve", memory, ("-S", "-B"), cwd="/", start_new_session=True)
+        self._has_begun = False  # whether it has said so, as this package's program does
+
+    def answers(self) -> list[tuple[int, list[bytes]]]:
+        """As of any such process."""
+        try:
+            return super().answers()
+        except EOFError:
+            said = self._process.stdout
+            self._has_begun = bool(said and select.select([said], [], [], 0)[0] and os.read(said.fileno(), 1))
+            raise
 
     def why(self) -> Exception:
         """What is told of a process that ended in the middle of a question: by status 1 Python tells what its program raised."""
@@ -114,7 +129,8 @@ class _Process(Child):
             return RuntimeError("the worker's program failed; it says why on standard error")
         if self.status() == -signal.SIGXCPU:
             return TimeoutError("no answer within its processor time")
-        return MemoryError("the worker ended")
+        is_python = self._has_begun or self.status() < 0
+        return MemoryError("the worker ended") if is_python else OSError(_NO_PYTHON.format(sys.executable))
 
     def ask(self, number: int, kind: int, files: tuple[bytes, ...], seconds: float, processor: int) -> tuple[int, list[bytes]]:
         """The status and the texts that come for a question. Raises TimeoutError where they come too late, and EOFError where none do."""
