@@ -479,6 +479,30 @@ def test_a_certificate_is_of_the_picture_with_its_name(site, checked, tmp_path, 
     assert status == 1 and len(lines) == 1
 
 
+@pytest.mark.parametrize("apart", (False, True))
+def test_a_picture_that_no_certificate_is_of_is_told(site, capsys, tmp_path, apart):
+    """NAME.cert is of NAME.ppm where that is there, else of NAME: each other picture is told, whatever its name, in one share."""
+    for name in ("a", "a.ppm", "b.ppm", "in/c"):
+        pair(tmp_path / "own" if apart else site, name, None)
+    for name in ("a", "a.ppm", "b", "in/c"):
+        pair(site, name, certificate=None)
+    words = ["site", *(["--certificates", "own"] if apart else [])]
+    assert check_site.main([*words, "--every-picture"]) == 0
+    assert capsys.readouterr() == ("", "accepted 4, refused 0, not read 0\n")
+    for name in ("a.ppm.ppm", "in\nc/c", "in/C"):
+        pair(site, name, certificate=None)
+    (site / "in/d.PPM").symlink_to("nowhere")
+    told = [f"site/{name}: no certificate\n" for name in ("a.ppm.ppm.ppm", "in/C.ppm", "in/d.PPM", "in\\nc/c.ppm")]
+    assert check_site.main(words) == 0
+    noted = "".join(f"nonobench-check-site: {line}" for line in told)
+    assert capsys.readouterr() == ("", f"{noted}accepted 4, refused 0, not read 0, no certificate 4\n")
+    assert check_site.main([*words, "--every-picture"]) == 1
+    assert capsys.readouterr() == ("".join(told), "accepted 4, refused 4, not read 0\n")
+    for part in (1, 2, 3):
+        check_site.main([*words, "--every-picture", "--quiet", "--shard", f"{part}/3"])
+    assert sorted(capsys.readouterr().out.splitlines(True)) == told
+
+
 def test_certificates_in_a_folder_of_their_own(site, checked, tmp_path):
     pair(site, "in/diagonal", certificate=None)
     own = tmp_path / "own"

@@ -31,7 +31,7 @@ ACCEPTED, REFUSED, WRONG, UNREAD = range(4)  # the exit statuses; WRONG is that 
 INTERRUPTED = 130
 PACK = 64  # certificates that wait for a worker, for each one
 
-ABOUT = """Checks each certificate (NAME.cert) below FOLDER with the picture NAME.ppm, a plain PPM text. It prints a line for each that fails: whose certificate is refused, or which has a flaw for which it is not fit to be published. The cells that are published with a puzzle are those of NAME.givens, a line
+ABOUT = """Checks each certificate (NAME.cert) below FOLDER with the picture NAME.ppm, a plain PPM text. It prints a line for each that fails: whose certificate is refused, or which has a flaw for which it is not fit to be published. A picture without a certificate is named on standard error. The cells that are published with a puzzle are those of NAME.givens, a line
 `given R C` for each; without that file there are none. The background is white, or that of NAME.background: R,G,B.
 Links are not followed, but FOLDER itself may be one."""
 
@@ -57,7 +57,7 @@ class Site:
     """Where the files of a site are."""
 
     def __init__(self, told: argparse.Namespace) -> None:
-        self._certificates, self._is_apart = told.certificates or told.folder, told.certificates is not None
+        self._site, self._certificates = told.folder, told.certificates or told.folder
         published = told.givens or (None if told.untrusted else told.folder)
         # The real paths, of which nothing below them may be a link.
         self._folder, *held = (folder and os.path.realpath(folder) for folder in (told.folder, self._certificates, published))
@@ -68,13 +68,26 @@ class Site:
         self._shard = told.shard
         self.unsearched: list[Answer] = []
         self.unread: list[Answer] = []  # in whose place another certificate is
+        self.bare: list[Answer] = []  # pictures without any
 
     def certificates(self) -> list[str]:
         """The certificates of a share, in order, one folder after another. What is called so and is no folder is among them.
         One with the older ending .proof counts where no .cert stands beside it, and is told otherwise.
         """
-        found: list[str] = []
-        waiting = [(self._certificates, 0)]
+        below = {outer: [*self._below(outer)] for outer in dict.fromkeys((self._certificates, self._site))}
+        found = {name for name in below[self._certificates] if name.lower().endswith(finding.HELD)}
+        newer = {os.path.splitext(name)[0] for name in found if name.lower().endswith(finding.HELD[0])}
+        older = {name for name in found if not name.lower().endswith(finding.HELD[0]) and os.path.splitext(name)[0] in newer}
+        self.unread += [Answer(os.path.join(self._certificates, name), ACCEPTED, "not read, since a .cert is there") for name in sorted(older)]
+        pictures = {name for name in below[self._site] if name.lower().endswith(".ppm")}
+        called = (name.rpartition(".")[0] for name in found)
+        bare = pictures.difference(f"{name}.ppm" if f"{name}.ppm" in pictures else name for name in called)  # as picture_of has it
+        self.bare += [Answer(os.path.join(self._site, name), REFUSED, "no certificate") for name in self._share(bare)]
+        return self._share(found - older)
+
+    def _below(self, outer: str) -> Iterator[str]:
+        """The certificates below a folder, and below the site the pictures, by their paths there. What cannot be searched is told."""
+        ends, waiting = finding.HELD + ((".ppm",) if outer == self._site else ()), [(outer, 0)]
         while waiting:
             place, depth = waiting.pop()
             try:
@@ -82,18 +95,16 @@ class Site:
                     for entry in entries:
                         if entry.is_dir(follow_symlinks=False):
                             waiting.append((entry.path, depth + 1))
-                        elif entry.name.lower().endswith(finding.HELD):
-                            found.append(entry.path)
-                        elif self._is_apart and not os.path.exists(entry.path):
+                        elif entry.name.lower().endswith(ends):
+                            yield entry.path.removeprefix(os.path.join(outer, ""))
+                        elif outer != self._site and not os.path.exists(entry.path):
                             self.unsearched.append(Answer(entry.path, UNREAD, "this is a link"))
             except OSError as error:
                 self.unsearched.append(Answer(os.path.join(place, ""), UNREAD, error.strerror))
-        newer = {os.path.splitext(file)[0] for file in found if file.lower().endswith(finding.HELD[0])}
-        older = sorted(file for file in found if not file.lower().endswith(finding.HELD[0]) and os.path.splitext(file)[0] in newer)
-        self.unread += [Answer(file, ACCEPTED, "not read, since a .cert is there") for file in older]
-        names = sorted((os.path.relpath(file, self._certificates) for file in {*found}.difference(older)), key=os.path.split)
-        # One that comes in the place of an older one is in its share.
-        return [name for name in names if finding.is_in_share(finding.shown(os.path.splitext(name)[0]), self._shard)]
+
+    def _share(self, names: set[str]) -> list[str]:
+        """Those of a share, in order: a certificate that comes in the place of an older one is in its share."""
+        return [name for name in sorted(names, key=os.path.split) if finding.is_in_share(finding.shown(os.path.splitext(name)[0]), self._shard)]
 
     def pairs(self, names: list[str]) -> Iterator[Pair]:
         """Certificates with their pictures, by the one rule of names."""
@@ -181,15 +192,17 @@ def _run(told: argparse.Namespace) -> int:
     if not names and told.shard[1] == 1:
         site.unsearched.append(Answer(os.path.join(told.certificates or told.folder, ""), UNREAD, "there is no certificate"))
     counts = {ACCEPTED: 0, REFUSED: 0, UNREAD: 0}
+    required, named = (site.bare, []) if told.every_picture else ([], site.bare)
     changed = (Answer(folder, UNREAD, finding.CHANGED) for folder in finding.changed())  # once the others are answered
-    for answer in itertools.chain(site.unsearched, Checks(told).answers(site.pairs(names)), changed):
+    for answer in itertools.chain(site.unsearched, Checks(told).answers(site.pairs(names)), required, changed):
         counts[answer.status] += 1
         if answer.status != ACCEPTED:
             print(line_of(answer), flush=True)
-    for answer in site.unread:
+    for answer in site.unread + named:
         print(f"nonobench-check-site: {line_of(answer)}", file=sys.stderr)
     if not told.quiet:
-        print(f"accepted {counts[ACCEPTED]}, refused {counts[REFUSED]}, not read {counts[UNREAD]}", file=sys.stderr)
+        bare = f", no certificate {len(named)}" if named else ""
+        print(f"accepted {counts[ACCEPTED]}, refused {counts[REFUSED]}, not read {counts[UNREAD]}{bare}", file=sys.stderr)
     return UNREAD if counts[UNREAD] else REFUSED if counts[REFUSED] else ACCEPTED
 
 
@@ -202,6 +215,7 @@ def _parser() -> argparse.ArgumentParser:
     parser.add_argument("--certificates", metavar="DIR", type=_folder, help="certificates are below this folder, not in FOLDER")
     parser.add_argument("--givens", metavar="DIR", type=_folder, help="NAME.givens and NAME.background are below this folder, not in FOLDER")
     parser.add_argument("--untrusted", action="store_true", help="for files of strangers: there is no NAME.givens nor NAME.background, but in the folder of --givens")
+    parser.add_argument("--every-picture", action="store_true", help="a picture without a certificate is refused")
     add_allowed(parser)
     parser.add_argument("--jobs", metavar="N", type=_above_0, default=len(os.sched_getaffinity(0)), help="checks at a time (by default one per processor)")
     parser.add_argument("--processor", metavar="S", type=_above_0, default=10, help="seconds of processor time for each (by default 10)")
