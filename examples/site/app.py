@@ -378,11 +378,11 @@ def add_pages(app, site):
 def create_app(**config):
     """The site. DATABASE is its file, SECONDS and MEMORY (bytes) bound a check, WORKERS is how many run at once."""
     app = Flask(__name__, static_folder=None)
+    app.url_map = app.url_map_class(merge_slashes=False)  # it redirects, to the host that the client names
     app.jinja_loader = PAGES
     app.wsgi_app = plain(app.wsgi_app)
     app.config.update(MAX_CONTENT_LENGTH=2 << 20, WORKERS=2, SECONDS=5.0, MEMORY=1 << 30)
-    app.config.update(DATABASE=os.environ.get("SITE_DATABASE", "puzzles.sqlite"))
-    app.config.update(config)
+    app.config.update({"DATABASE": os.environ.get("SITE_DATABASE", "puzzles.sqlite"), **config})
     site = app.extensions["puzzles"] = Site(app.config)
     guard(app)
     add_pages(app, site)

@@ -383,6 +383,12 @@ class Site(Case):
         for path in ("/puzzles/3", "/puzzles/x", "/puzzles/-1", "/puzzles/99999999999999999999999"):
             self.assertEqual(self.client.get(path).status_code, 404)
 
+    def test_no_address_leads_to_another_host(self):
+        self.bring(DIAGONAL, DIAGONAL_CERT)
+        for path, status in (("//", 200), ("/puzzles//1", 404), ("//puzzles//new", 404), ("/new/", 404)):
+            answer = self.client.get(environ_overrides={"PATH_INFO": path, "HTTP_HOST": "evil.example"})
+            self.assertEqual((answer.status_code, answer.headers.get("Location")), (status, None), path)
+
     def test_a_check_that_takes_too_long_is_ended(self):
         self.app.config["SECONDS"] = 0.2
         with nonobench.Worker(seconds=300) as worker:
