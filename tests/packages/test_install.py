@@ -73,6 +73,18 @@ def test_a_search_path_of_folders(archive, checkout, folder, tmp_path):
     assert (status, out.splitlines()[-1]) == (0, 'nonobench 9.9.9')
 
 
+@pytest.mark.parametrize('folder', ['an archive', 'checkout'])
+def test_others_may_use_what_is_installed(archive, checkout, folder, tmp_path):
+    """Whatever the mask of who installs, and of who unpacked."""
+    subprocess.run(['chmod', '-R', 'go=', tmp_path / folder], check=True)
+    prefix = tmp_path / 'pre' / 'fix'
+    words = [tmp_path / folder / 'install', '--prefix', prefix]
+    subprocess.run(words, env={'PATH': '/usr/bin:/bin'}, capture_output=True, check=True, umask=0o077)
+    programs = {prefix / 'bin/nonobench', prefix / OURS[1]}
+    for path in (prefix.parent, prefix, *prefix.rglob('*')):
+        assert path.stat().st_mode & 0o777 == (0o755 if path.is_dir() or path in programs else 0o644), path
+
+
 def test_removed_by_the_copy_that_was_installed(archive, tmp_path):
     prefix = tmp_path / 'prefix'
     assert run(archive / 'install', f'--prefix={prefix}')[0] == 0
