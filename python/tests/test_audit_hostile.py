@@ -1561,19 +1561,21 @@ class Processes(Case):
     def test_a_process_that_hangs(self):
         for at in range(12):
             self.put(f"{at:02}.ppm", p3(UNIQUE))
-        # The first process stops before it begins, and is replaced after a minute.
+        # The first process stops before it begins, and is replaced, here not after a minute.
         stops = "mkdir hung 2>/dev/null && kill -STOP $$"
-        done = self.by_script([stops], "site", "--jobs", "1", "--seconds", str(PATIENCE), "--jsonl", "rows", "--no-grade")
+        words = ["site", "--jobs", "1", "--seconds", str(PATIENCE), "--jsonl", "rows", "--no-grade"]
+        done = self.by_script([stops], *words, before="from nonobench.collection import workers; workers.STARTING = 12")
         self.assertEqual(done.returncode, 0, done.stderr)
         self.assertTrue((self.folder / "hung").exists())
         self.assertEqual([row["verdict"] for row in self.read("rows").values()], ["unique"] * 12)
 
-    def by_script(self, lines, *words, flags=()):
-        """A run whose processes are begun by a script of these lines, and which itself has these flags of Python, as they have."""
+    def by_script(self, lines, *words, flags=(), before="pass"):
+        """A run whose processes are begun by a script of these lines, and which itself has these flags of Python, as they have.
+        What comes before it is done in the run alone."""
         script = self.folder / "python"
         script.write_text("\n".join(["#!/bin/sh", *lines, f'exec {sys.executable} {" ".join(flags)} "$@"', ""]))
         script.chmod(0o755)
-        code = f"import sys; sys.executable = {str(script)!r}; sys.argv = ['nonobench-audit', *sys.argv[1:]]; from nonobench.collection import main; sys.exit(main())"
+        code = f"import sys; sys.executable = {str(script)!r}; sys.argv = ['nonobench-audit', *sys.argv[1:]]; {before}; from nonobench.collection import main; sys.exit(main())"
         words = [sys.executable, *flags, "-c", code, *words]
         pipes = {"stdout": subprocess.PIPE, "stderr": subprocess.PIPE, "text": True}
         with subprocess.Popen(words, cwd=self.folder, env=self.env(), start_new_session=True, **pipes) as process:
