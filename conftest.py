@@ -5,6 +5,7 @@ marked `since` a later version wait, if the engine has changed since that releas
 """
 
 import collections
+import compileall
 import importlib.util
 import os
 import shutil
@@ -42,10 +43,12 @@ def pytest_addoption(parser):
 def pytest_configure(config):
     """Chooses what is tried. The first process unpacks the release, and the others find it by the variable SCRATCH."""
     left = tried.Left()
+    is_first = 'PYTEST_XDIST_WORKER' not in os.environ
+    if is_first:  # so that not each of some hundred runs of the audit reads Python's sources anew
+        compileall.compile_dir(tried.ROOT / 'python' / 'src', quiet=2)
     if not config.getoption('released') and left.program('nonobench').exists():
         config.stash[KEPT] = left
     else:
-        is_first = 'PYTEST_XDIST_WORKER' not in os.environ
         if is_first:
             os.environ['SCRATCH'] = tempfile.mkdtemp(prefix='nonobench-tests-')
         config.stash[KEPT] = tried.Release(Path(os.environ['SCRATCH']))
