@@ -59,6 +59,7 @@ def pytest_configure(config):
         NONOBENCH=str(kept.program('nonobench')), NONOBENCH_LIBRARY=str(kept.library), PYTHONPATH=str(tried.ROOT / 'python' / 'src')
     )
     os.environ.setdefault('SLACK', '12')  # a factor for the bounds of time, since many tests run at once
+    os.environ['SHORT'] = '' if 'all' in config.getoption('with') else '1'  # tests/waits.mjs; fewer processes of audits, and fewer cases
     if kept.released and tried.changed_crates() != []:
         os.environ['TRIED'] = kept.version  # tests/waits.mjs
 

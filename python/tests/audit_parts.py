@@ -10,6 +10,8 @@ import unittest
 from pathlib import Path
 
 PATIENCE = 300  # seconds after which what is waited for counts as what does not come
+# Processes of a run that names no other number: each costs more than most tests ask of it.
+JOBS = "1" if os.environ.get("SHORT") else "2"
 ROOT = Path(__file__).resolve().parent.parent.parent
 WHITE, BLACK, RED = (255, 255, 255), (0, 0, 0), (255, 0, 0)
 TRIPLES = {".": WHITE, "a": BLACK, "b": RED}
@@ -68,7 +70,9 @@ class Case(unittest.TestCase):
     def words(self, *words):
         """The command line of a run, apart from the folder that it runs in. Where no bound is named, no puzzle is too slow for it."""
         is_bounded = {"merge", "--seconds", "--allow"}.intersection(words)
-        return [sys.executable, "-m", "nonobench.audit", *map(str, words), *([] if is_bounded else ["--seconds", str(PATIENCE)])]
+        is_shared = {"merge", "--jobs"}.intersection(words)
+        more = [*([] if is_bounded else ["--seconds", str(PATIENCE)]), *([] if is_shared else ["--jobs", JOBS])]
+        return [sys.executable, "-m", "nonobench.audit", *map(str, words), *more]
 
     def env(self, **more):
         return {**os.environ, "PYTHONPATH": str(ROOT / "python" / "src"), "PYTHONDONTWRITEBYTECODE": "1", **more}

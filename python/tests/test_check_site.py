@@ -39,10 +39,11 @@ def site(tmp_path, monkeypatch):
 
 @pytest.fixture
 def checked(capsys):
-    """Runs it, and answers its status and the lines that it printed."""
+    """Runs it, and answers its status and the lines that it printed. Where no number is named, as few checks go on at once as may do."""
 
     def run(*words):
-        status = check_site.main([*map(str, words)])
+        more = [] if "--jobs" in words else ["--jobs", "1" if os.environ.get("SHORT") else "2"]
+        status = check_site.main([*more, *map(str, words)])
         printed = capsys.readouterr()
         return status, printed.out.splitlines()
 

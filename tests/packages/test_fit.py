@@ -14,6 +14,7 @@ import pytest
 from tried import CASES, ROOT, ended, needs, needs_file, passes
 
 ENV = {**os.environ, 'PYTHONPATH': str(ROOT / 'python' / 'src'), 'PYTHONDONTWRITEBYTECODE': '1'}
+BOUNDS = ['--seconds', '300', '--jobs', '1' if os.environ.get('SHORT') else '2']
 REFUSED = 'refused '
 
 
@@ -253,7 +254,7 @@ def test_program(kept, tmp_path):
 
 def audited(folder, *words):
     """The rows of an audit by their names, and its status."""
-    run = ended([sys.executable, '-m', 'nonobench.audit', 'site', '--seconds', '300', '--quiet', '--jsonl', 'rows', *words], cwd=folder, env=ENV)
+    run = ended([sys.executable, '-m', 'nonobench.audit', 'site', *BOUNDS, '--quiet', '--jsonl', 'rows', *words], cwd=folder, env=ENV)
     rows = map(json.loads, (folder / 'rows').read_text().splitlines())
     return {row['file'].removeprefix('site/').removesuffix('.ppm'): row for row in rows}, run.status
 
@@ -303,7 +304,7 @@ def test_audit_allows(library, kind, tmp_path):
 
 def checked(folder, *words):
     """The lines of nonobench-check-site, and its status."""
-    run = ended([sys.executable, '-m', 'nonobench.check_site', folder, '--quiet', '--seconds', '300', *words], cwd=folder, env=ENV)
+    run = ended([sys.executable, '-m', 'nonobench.check_site', folder, '--quiet', *BOUNDS, *words], cwd=folder, env=ENV)
     return dict(line.split('.cert: ') for line in run.wrote.decode().splitlines()), run.status
 
 
