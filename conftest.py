@@ -23,6 +23,7 @@ import tried  # noqa: E402
 
 # What takes long: `make check` leaves it to `make check-all`.
 LONG = ('all', 'browser')
+WHY_LONG = 'it takes long, and make check-all has it ({})'
 # The libraries that some files of tests want: names of modules, and what they are called.
 WANTED = {
     'test_audit': {'PIL': 'Pillow', 'defusedxml': 'defusedxml', 'jinja2': 'Jinja2'},
@@ -59,7 +60,7 @@ def pytest_configure(config):
         NONOBENCH=str(kept.program('nonobench')), NONOBENCH_LIBRARY=str(kept.library), PYTHONPATH=str(tried.ROOT / 'python' / 'src')
     )
     os.environ.setdefault('SLACK', '12')  # a factor for the bounds of time, since many tests run at once
-    os.environ['SHORT'] = '' if 'all' in config.getoption('with') else '1'  # tests/waits.mjs; fewer processes of audits, and fewer cases
+    os.environ['SHORT'] = '' if 'all' in config.getoption('with') else WHY_LONG.format('all')  # where there is no mark, and for sizes
     if kept.released and tried.changed_crates() != []:
         os.environ['TRIED'] = kept.version  # tests/waits.mjs
 
@@ -96,7 +97,7 @@ def pytest_collection_modifyitems(config, items):
             _wait(item, mark.args[0], kept, changed)
         for name in set(LONG) - set(config.getoption('with')):
             if item.get_closest_marker(name):
-                item.add_marker(pytest.mark.skip(reason=f'it takes long, and make check-all has it ({name})'))
+                item.add_marker(pytest.mark.skip(reason=WHY_LONG.format(name)))
         if not kept.released and 'made' in item.fixturenames and 'program' not in item.fixturenames:
             item.add_marker(pytest.mark.xdist_group('packages'))  # one process makes them and tries them, and the others go on
         if kept.released and item.get_closest_marker('toolchain'):

@@ -10,7 +10,7 @@ import { fileURLToPath } from 'node:url';
 import { setFlagsFromString } from 'node:v8';
 import { runInNewContext } from 'node:vm';
 import { faultBy, mustCheckForms, mustCheckPublished, pictureOf, refusedInTurn } from '../tests/cases.mjs';
-import { TRIED, waits } from '../tests/waits.mjs';
+import { TRIED, long, waits } from '../tests/waits.mjs';
 import { Fault, hintOf, load, readAssessment } from './nonobench.mjs';
 
 const root = join(dirname(fileURLToPath(import.meta.url)), '..');
@@ -653,7 +653,7 @@ test('a bench is closed in a moment, however many others are open', async () => 
   assert.ok(times[1] < times[0], `opened in ${times[0]} and closed in ${times[1]} microseconds`);
 });
 
-test('benches that nobody holds any more are closed, and a bench is closed once by what disposes of it', async () => {
+test('benches that nobody holds any more are closed, and a bench is closed once by what disposes of it', { skip: long }, async () => {
   setFlagsFromString('--expose-gc');
   const collect = runInNewContext('gc'), engine = await fresh();
   const before = engine.open(DIAGONAL);
@@ -691,7 +691,7 @@ test('10,000 benches are opened and closed, and not a block more is taken', asyn
   assert.equal(taken(calls, () => { for (let i = 0; i < 10000; i += 1) session(); }), 0);
 });
 
-test('memory that was full of benches is whole again once they are closed', async () => {
+test('memory that was full of benches is whole again once they are closed', { skip: long }, async () => {
   const { engine, calls } = await watched(), held = [];
   const large = [29n, 28n].map((size) => calls.malloc(2n ** size - 16n)); // so that fewer benches fill it
   assert.deepEqual(faultOf(() => { for (;;) held.push(engine.open(DIAGONAL)); }), ['memory', 'memory']);
@@ -828,7 +828,7 @@ function uploadedBy(name, folder, ...words) {
   return [run.stdout + run.stderr, run.status];
 }
 
-test('the example checks an upload in a thread of its own, and its status tells a refusal', () => {
+test('the example checks an upload in a thread of its own, and its status tells a refusal', { skip: long }, () => {
   const said = (...words) => uploaded(join(root, 'examples'), ...words);
   const folder = mkdtempSync(join(tmpdir(), 'nonobench-upload-'));
   const file = (name, lines) => (writeFileSync(join(folder, name), lines), join(folder, name));
@@ -932,7 +932,7 @@ function ownFolder(t) {
   return folder;
 }
 
-test('the example reads regular files alone, and none that is too long', (t) => {
+test('the example reads regular files alone, and none that is too long', { skip: long }, (t) => {
   const folder = ownFolder(t), [picture, certificate] = ['diagonal.ppm', 'diagonal.cert'].map((name) => join(root, 'examples', name));
   const pipe = join(folder, 'pipe'), long = join(folder, 'long');
   assert.equal(spawnSync('mkfifo', [pipe]).status, 0);
@@ -968,7 +968,7 @@ function writeCrlf(folder, certificate) {
   return join(folder, 'crlf.cert');
 }
 
-test('the example ends a check that takes too long, by the processor or by the clock', async (t) => {
+test('the example ends a check that takes too long, by the processor or by the clock', { skip: long }, async (t) => {
   const folder = ownFolder(t), [picture, certificate] = ['diagonal.ppm', 'diagonal.cert'].map((name) => join(root, 'examples', name));
   // A package whose check takes its time: as the script's name says.
   mkdirSync(join(folder, 'node_modules', 'nonobench'), { recursive: true });
