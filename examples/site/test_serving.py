@@ -29,6 +29,8 @@ SECONDS = 5
 MOST_KIB = 512 << 10
 STARTING = 300  # seconds that anything may take on a busy machine
 EDGE = "nonobench-test-edge"
+# For those that keep a processor busy for long: `make check` says why it leaves them out.
+takes_long = unittest.skipIf(os.environ.get("SHORT"), os.environ.get("SHORT"))
 
 
 def form(picture, certificate, padding=b""):
@@ -189,6 +191,7 @@ class Serving(unittest.TestCase):
         # Less than a fifth of what they sent is held.
         self.assertLess(sum(map(peak, family(self.server.pid))), 100 << 10)
 
+    @takes_long
     def test_who_opens_many_connections_shuts_nobody_out(self):
         """Those that are silent make room for others, also where each has a file of what it sent."""
         resource.setrlimit(resource.RLIMIT_NOFILE, (4096, resource.getrlimit(resource.RLIMIT_NOFILE)[1]))
@@ -204,6 +207,7 @@ class Serving(unittest.TestCase):
                 self.assertEqual(status, 409 if sent else 303)
                 self.assertLess(seconds, SECONDS + waited(self.server.pid) - idle)
 
+    @takes_long
     def test_who_asks_much_holds_up_nobody_else(self):
         """560 connections of another address, each with as many requests as it can send."""
         resource.setrlimit(resource.RLIMIT_NOFILE, (4096, resource.getrlimit(resource.RLIMIT_NOFILE)[1]))
@@ -219,6 +223,7 @@ class Serving(unittest.TestCase):
         self.assertEqual(Counter(status for status, _ in answers), {303: 200})
         self.assertLess(max(seconds for _, seconds in answers), SECONDS + waited(self.server.pid) - idle)
 
+    @takes_long
     def test_who_uploads_much_shuts_nobody_out_of_the_workers(self):
         """30 uploads at a time of another address, each of which takes as long as a check may."""
         certificate = b"nonolemma 2\nlemma\ndeny 1 1 a\n%sline r1\ndead c 2\nline r1 r2 c1 c2\n%s"
