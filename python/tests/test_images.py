@@ -67,6 +67,8 @@ class Reading(unittest.TestCase):
 
     def compare(self, variable, usual, *words):
         """Compares what is read with what a browser shows."""
+        if os.environ.get("SHORT"):
+            self.skipTest(os.environ["SHORT"])
         browser = os.environ.get(variable, usual)
         if not shutil.which(browser) or not shutil.which("node"):
             self.skipTest(f"there is no {browser} or no node")

@@ -356,7 +356,7 @@ class Chance(unittest.TestCase):
     def test_program(self):
         source = random.Random(int(os.environ.get("SEED", "1")))
         accepted = refused = ambiguous = published = 0
-        for _ in range(int(os.environ.get("CASES", "1000"))):
+        for _ in range(int(os.environ.get("CASES", "300" if os.environ.get("SHORT") else "1000"))):
             picture = marred(chance_picture(source), source, 4)
             background = source.choice([None, None, (0, 0, 0), (7, 80, 7)])
             words = [] if background is None else ["--background", ",".join(map(str, background))]
