@@ -6,6 +6,7 @@ Usage: .ci/house.py [-v]: with -v it also prints each place. The crates of tests
 """
 
 import collections
+import functools
 import itertools
 import pathlib
 import re
@@ -29,18 +30,17 @@ MOST_PARAMETERS = 6
 PROVERS_NAMES = {'Answers.antt', 'Invariants.antt', 'Proof.antt'}
 
 
+@functools.cache
 def sources(part, ending):
     """The files of the product crates below a part of each, with their texts."""
-    for crate in sorted((ROOT / 'crates').iterdir()):
-        if crate.is_dir() and crate.name not in OTHERS:
-            for file in sorted((crate / part).rglob('*' + ending)):
-                if 'out' not in file.relative_to(crate).parts:
-                    yield file, file.read_text(encoding='utf-8')
+    crates = (crate for crate in sorted((ROOT / 'crates').iterdir()) if crate.is_dir() and crate.name not in OTHERS)
+    files = ((crate, file) for crate in crates for file in sorted((crate / part).rglob('*' + ending)))
+    return [(file, file.read_text(encoding='utf-8')) for crate, file in files if 'out' not in file.relative_to(crate).parts]
 
 
 def place(file, line):
     """A line of a file as a reader looks it up."""
-    return f'{file.relative_to(ROOT)}:{line}'
+    return f'{str(file)[len(str(ROOT)) + 1:]}:{line}'
 
 
 def wide_clauses():
@@ -170,6 +170,8 @@ def lone_definitions():
                 continue
             for found in re.finditer(r'(?m)^(?:(?:abbrev|unfoldable|opaque|pub)\s+)*([A-Za-z_][\w-]*)\s*:\s', text):
                 name = found[1]
+                if words.get(name, 0) > text.count(f'\n{name}') + 2:
+                    continue  # some of its places begin no line
                 heads_of = len(re.findall(rf'(?m)^{re.escape(name)}\b', text))
                 if words.get(name, 0) <= max(heads_of, 1) + (1 if re.search(rf'(?m)^(?:\w+\s+)+{re.escape(name)}\s*:', text) else 0):
                     worked = bool(re.search(rf'(?m)^{re.escape(name)} = refl$', text))
