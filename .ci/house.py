@@ -178,14 +178,9 @@ def lone_definitions():
                     yield f'{place(file, text.count(chr(10), 0, found.start()) + 1)} {name}', worked
 
 
-def unnamed_definitions():
-    """Those that are no worked rows: nothing but the prover's own search can find them."""
-    return (found for found, worked in lone_definitions() if not worked)
-
-
-def worked_rows():
-    """Rows worked out beside a definition: nothing names them, and the check compares them."""
-    return (found for found, worked in lone_definitions() if worked)
+def lone(is_worked):
+    """Those that are rows worked out, which the check compares, or the others, which nothing but the prover's own search can find."""
+    return (found for found, worked in lone_definitions() if worked == is_worked)
 
 
 def shape(line):
@@ -250,8 +245,8 @@ COUNTS = (
     ('pairs of source files that share six lines of one shape', lambda: shared_places(sources('src', '.rt'), shape), 130),
     ('pairs of specs or proofs that share six lines', lambda: shared_places(proof_sources(), str), 24),
     ('source files without a first line', headless_files, 0),
-    ('definitions and lemmas that nothing names', unnamed_definitions, 12),
-    ('rows worked out beside a definition', worked_rows, 7),
+    ('definitions and lemmas that nothing names', lambda: lone(False), 12),
+    ('rows worked out beside a definition', lambda: lone(True), 7),
     # `assess`, `assess_text` and the call `nonobench_assess` replace what hosts compute in scripts; `prove` takes givens, and searches
     # without bounds
     # `nonobench assess`, the checker alone (`text_check`, `check_host`), and a search that explains several exclusions at once
