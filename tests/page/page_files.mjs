@@ -81,9 +81,9 @@ test('the notes of a P3 text bring back background, palette and givens', () => {
     assert.deepEqual(packedDoc(read(magic + notes.replace('# nonobench givens', '# another\n# nonobench givens') + rest)), packedDoc(doc));
     const long = { ...doc, about: { title: 'ж'.repeat(90000), note: 'ж'.repeat(90000) } };
     assert.deepEqual([...read(ppmTextOf(long)).givens], [0, 3]);
-    const from = performance.now();
+    const from = process.cpuUsage();
     assert.equal(read(magic + '# nonobench a\n'.repeat(500000) + rest), null);
-    assert.ok(performance.now() - from < 10000, 'many notes');
+    assert.ok(process.cpuUsage(from).user < 10e6, 'many notes');
 });
 
 test('the given cells of XML have the size of the picture', () => {
