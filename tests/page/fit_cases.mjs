@@ -10,7 +10,7 @@ import { fileURLToPath } from 'node:url';
 import { engine, moduleFile, needsModule, workers } from '../../page/test/worker.mjs';
 import { Client } from '../../page/engine/client.js';
 import { Judge } from '../../page/engine/judging.js';
-import { waits } from '../waits.mjs';
+import { long, waits } from '../waits.mjs';
 
 const wasm = resolve(moduleFile);
 const root = fileURLToPath(new URL('../../', import.meta.url));
@@ -81,7 +81,7 @@ test('the page\'s judge, of what the page can have: no certificate, and a backgr
     assert.ok(count > 8, `${count}`);
 });
 
-test('the program for node', { skip }, () => inFolder((folder) => {
+test('the program for node', { skip: skip || long }, () => inFolder((folder) => {
     mkdirSync(join(folder, 'package'));
     for (const name of ['program', 'words', 'streams', 'ending', 'node']) copyFileSync(join(root, 'packages', 'npm', `${name}.mjs`), join(folder, 'package', `${name}.mjs`));
     copyFileSync(join(root, 'web', 'nonobench.mjs'), join(folder, 'package', 'nonobench.mjs'));
@@ -94,7 +94,7 @@ test('the program for node', { skip }, () => inFolder((folder) => {
     }
 }));
 
-test('the check of an upload, of what has a certificate', { skip }, () => inFolder((folder) => {
+test('the check of an upload, of what has a certificate', { skip: skip || long }, () => inFolder((folder) => {
     let count = 0;
     for (const one of cases.filter(({ certificate }) => certificate)) {
         const files = written(folder, { ...one, givens: one.givens ?? [] });
