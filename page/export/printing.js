@@ -175,15 +175,14 @@ const printPuzzle = () => asSeen(async (seen) => {
   const notes = make('div', { id: 'print-notes', role: 'status' });
   const svgName = make('span');
   const titled = () => ({ ...own, doc: { ...own.doc, about: { ...own.doc.about, title: fields.title.value.trim() } } });
-  const count = () => makersOf([own, ...others.chosen()].sort(byName), readFields(fields)).length;
-  const isZip = () => count() > 1 || others.chosen().length > 0;
-  const tooMany = () => (count() > MOST_SHEETS ? phrase('export.mostSheets', { sheets: count(), most: MOST_SHEETS }) : '');
-  let turn = 0;
+  let [turn, tooMany] = [0, ''];
   const showNotes = async () => {
-    const ownTurn = ++turn;
-    svgName.textContent = isZip() ? phrase('export.saveSvgs') : phrase('export.saveSvg');
-    if (tooMany()) return notes.replaceChildren(make('p', { class: 'wrong' }, tooMany()));
-    const [options, puzzles] = [readFields(fields), await foreseen(titled(), others.chosen())];
+    const [ownTurn, options, cards] = [++turn, readFields(fields), others.chosen()];
+    const count = makersOf([own, ...cards].sort(byName), options).length;
+    tooMany = count > MOST_SHEETS ? phrase('export.mostSheets', { sheets: count, most: MOST_SHEETS }) : '';
+    svgName.textContent = count > 1 || cards.length ? phrase('export.saveSvgs') : phrase('export.saveSvg');
+    if (tooMany) return notes.replaceChildren(make('p', { class: 'wrong' }, tooMany));
+    const puzzles = await foreseen(titled(), cards);
     const goesOn = async () => {
       await new Promise((go) => setTimeout(go));
       return ownTurn === turn;
@@ -193,7 +192,7 @@ const printPuzzle = () => asSeen(async (seen) => {
   };
   const content = make('div', { onchange: showNotes }, make('div', { class: 'rows' }, ...rows, others.part), notes);
   await showNotes();
-  const way = await openDialog({ title: phrase('export.print'), content, wide: true, buttons: [{ name: svgName, value: 'svg', test: tooMany }, { name: opening(phrase('export.print')), value: 'print', main: true, test: tooMany }] });
+  const way = await openDialog({ title: phrase('export.print'), content, wide: true, buttons: [{ name: svgName, value: 'svg', test: () => tooMany }, { name: opening(phrase('export.print')), value: 'print', main: true, test: () => tooMany }] });
   turn++;
   if (!way) return;
   const options = readFields(fields);
@@ -203,7 +202,7 @@ const printPuzzle = () => asSeen(async (seen) => {
     return opened && sheetsInTurn([titled(), ...opened].sort(byName), options, progress, way === 'print' ? printedOf : undefined);
   });
   if (!sheets) return;
-  if (way === 'svg') return saveSvg(own.name, sheets, isZip());
+  if (way === 'svg') return saveSvg(own.name, sheets, sheets.length > 1 || others.chosen().length > 0);
   fillPrint(sheets);
   globalThis.print();
 });

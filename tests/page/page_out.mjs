@@ -624,6 +624,13 @@ export async function sheetsBound({ browser, url, folder }) {
     const wrong = () => [...document.querySelectorAll('dialog[open] p.wrong')].map((one) => one.textContent).find((text) => text.startsWith('These are 350 sheets; at most 300 are printed or saved at once.'));
     await change(['print-all', true]);
     await page.until(wrong, 5000 * SLACK); // and 50 of solutions, six on each
+    assert.equal(await page.run(() => { // as often as the margin is read
+        let reads = 0;
+        const field = Object.defineProperty(document.getElementById('print-margin'), 'value', { get() { reads++; return '12'; }, configurable: true });
+        field.dispatchEvent(new Event('change', { bubbles: true }));
+        delete field.value;
+        return reads;
+    }), 1, 'sheets are counted once for a change');
     for (const button of ['2)', '3)']) {
         await page.click(`dialog .buttons button:nth-child(${button}`);
         await page.until(() => document.querySelector('dialog[open] p.wrong[role=alert]').textContent.startsWith('These are 350'), 3000 * SLACK);
