@@ -67,8 +67,9 @@ export class Keeper {
 
   /** The cards of all records, the newest first. One that is missing is made of its record. */
   async cards() {
-    const ids = (await this.shelf.keys()).map(String).filter((key) => key.startsWith(RECORD)).map((key) => key.slice(RECORD.length));
-    const cards = await Promise.all(ids.map(async (id) => readCard(await this.shelf.get(CARD + id).catch(() => null)) ?? this.cardAnew(id)));
+    const { keys, values } = await this.shelf.listed(CARD);
+    const ids = keys.map(String).filter((key) => key.startsWith(RECORD)).map((key) => key.slice(RECORD.length));
+    const cards = await Promise.all(ids.map((id) => readCard(values.get(CARD + id)) ?? this.cardAnew(id)));
     return cards.filter(Boolean).sort((a, b) => b.when - a.when);
   }
 

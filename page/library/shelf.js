@@ -1,7 +1,7 @@
 // Where the browser keeps things: a shelf of named values, over IndexedDB, else localStorage, else memory alone.
-// Each shelf has `get`, `change`, `put`, `putAll`, `drop` and `keys`, which answer promises; `lasts` tells whether a reload finds it again.
-// `change(keys, f)` puts the entries that `f` makes of the values of some keys: nothing comes between. What is kept elsewhere while the
-// database does not open goes there as soon as it does.
+// Each shelf has `get`, `change`, `put`, `putAll`, `drop`, `keys` and `listed`, which answer promises; `lasts` tells whether a reload
+// finds it again. `change(keys, f)` puts the entries that `f` makes of the values of some keys: nothing comes between. `listed(prefix)`
+// has all keys, and the values of those that begin so. What is kept elsewhere while the database does not open goes there as soon as it does.
 
 const SHELF_NAME = 'nonobench';
 const SHELF_WAIT = 15000; // milliseconds for a database that does not open: on a busy machine the first opening takes seconds
@@ -11,8 +11,21 @@ const settledRequest = (request) => new Promise((resolve, reject) => {
   request.onerror = () => reject(request.error);
 });
 
-// `put` and `putAll` are changes that ask for no value.
-const withPuts = (shelf) => Object.assign(shelf, { put: (key, value) => shelf.change([], () => [[key, value]]), putAll: (entries) => shelf.change([], () => entries) });
+const listOf = (keys, own, values) => ({ keys, values: new Map(own.map((key, at) => [key, values[at]])) });
+
+// Each value is read alone: one that is damaged hides no other.
+async function listedAlone(shelf, prefix) {
+  const keys = await shelf.keys();
+  const own = keys.filter((key) => String(key).startsWith(prefix));
+  return listOf(keys, own, await Promise.all(own.map((key) => shelf.get(key).catch(() => null))));
+}
+
+// What shelves have in common: `put` and `putAll` are changes that ask for no value.
+const whole = (shelf) => Object.assign(shelf, {
+  put: (key, value) => shelf.change([], () => [[key, value]]),
+  putAll: (entries) => shelf.change([], () => entries),
+  listed: async (prefix) => (await shelf.listedAtOnce?.(prefix).catch(() => null)) ?? listedAlone(shelf, prefix),
+});
 
 // What was closed under the page is opened again at the next need. `blocked` is called where the database may open late.
 async function indexedShelf(home, blocked) {
@@ -26,7 +39,7 @@ async function indexedShelf(home, blocked) {
   };
   const ready = () => (opened ??= open().catch((fault) => { opened = null; throw fault; }));
   await ready();
-  const read = async (ask) => settledRequest(ask((await ready()).transaction('kept', 'readonly').objectStore('kept')));
+  const read = async (ask) => ask((await ready()).transaction('kept', 'readonly').objectStore('kept'));
   // A write is kept once its transaction is complete.
   const write = (act) => ready().then((database) => new Promise((resolve, reject) => {
     const transaction = database.transaction('kept', 'readwrite', { durability: 'relaxed' });
@@ -34,9 +47,9 @@ async function indexedShelf(home, blocked) {
     transaction.onabort = transaction.onerror = () => reject(transaction.error ?? new Error('not kept'));
     act(transaction.objectStore('kept'));
   }));
-  return withPuts({
+  return whole({
     lasts: true,
-    get: (key) => read((kept) => kept.get(key)),
+    get: (key) => read((kept) => settledRequest(kept.get(key))),
     change: (keys, f) => write((kept) => {
       const asked = keys.map((key) => kept.get(key));
       const put = () => { for (const [key, value] of f(asked.map((one) => one.result))) kept.put(value, key); };
@@ -44,14 +57,18 @@ async function indexedShelf(home, blocked) {
       else put();
     }),
     drop: (...keys) => write((kept) => { for (const key of keys) kept.delete(key); }),
-    keys: () => read((kept) => kept.getAllKeys()),
+    keys: () => read((kept) => settledRequest(kept.getAllKeys())),
+    listedAtOnce: (prefix) => read(async (kept) => {
+      const range = IDBKeyRange.bound(prefix, `${prefix}\uffff`);
+      return listOf(...await Promise.all([kept.getAllKeys(), kept.getAllKeys(range), kept.getAll(range)].map(settledRequest)));
+    }),
   });
 }
 
 export function localShelf(storage) {
   const own = (key) => `${SHELF_NAME}:${key}`;
   const read = (key) => JSON.parse(storage.getItem(own(key)) ?? 'null') ?? undefined;
-  return withPuts({
+  return whole({
     lasts: true,
     get: async (key) => read(key),
     change: async (keys, f) => {
@@ -73,7 +90,7 @@ export function localShelf(storage) {
 export function memoryShelf() {
   const kept = new Map();
   const read = (key) => (kept.has(key) ? JSON.parse(kept.get(key)) : undefined);
-  return withPuts({
+  return whole({
     lasts: false,
     get: async (key) => read(key),
     change: async (keys, f) => { for (const [key, value] of f(keys.map(read))) kept.set(key, JSON.stringify(value)); },
@@ -123,7 +140,7 @@ function shelfUntil(first, late, moved) {
   };
   late.then(move).catch(() => {});
   const asked = (name) => (...words) => at.then((shelf) => shelf[name](...words));
-  return withPuts({ get lasts() { return now.lasts; }, get: asked('get'), change: asked('change'), drop: asked('drop'), keys: asked('keys') });
+  return whole({ get lasts() { return now.lasts; }, get: asked('get'), change: asked('change'), drop: asked('drop'), keys: asked('keys'), listedAtOnce: asked('listed') });
 }
 
 /** The best shelf that the browser has; `home` is the window. Never fails. `moved` is called where it is a database that opened late from now on. */

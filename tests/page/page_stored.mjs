@@ -189,3 +189,27 @@ export async function closedDatabase({ page, trial }) {
     await page.until(() => keep.isKept && document.getElementById('said').textContent === '', 5000 * SLACK);
     assert.equal(await page.run(async () => (await keep.keeper.cards()).length), 1);
 }
+
+/** However many pictures there are, one transaction of the database lists them. */
+export async function listedAtOnce({ page, trial }) {
+    await clean(page);
+    await page.click('#new-go');
+    await isOpen(page);
+    await trial.drag([[2, 2]]);
+    await isKept(page);
+    const told = await page.run(async () => {
+        const { keeper, id } = keep;
+        const { record, card } = await keeper.entry(id);
+        const entries = Array.from({ length: 499 }, (_, at) => [['work', record], ['card', card]].map(([kind, value]) => [`${kind}:more${at}`, { ...value, id: `more${at}` }]));
+        await keeper.shelf.putAll(entries.flat());
+        await keeper.shelf.drop('card:more7');
+        const { transaction } = IDBDatabase.prototype;
+        let count = 0;
+        IDBDatabase.prototype.transaction = function (...words) { count++; return transaction.apply(this, words); };
+        const cards = await keeper.cards();
+        IDBDatabase.prototype.transaction = transaction;
+        return [cards.length, count];
+    });
+    assert.deepEqual(told, [500, 2], 'and one for a card that is missing');
+    await clean(page);
+}
