@@ -11,7 +11,7 @@ import { phrase } from '../texts/phrase.js';
 import { gradeAtHand } from '../view/grading.js';
 import { Keeper } from './keeper.js';
 import { newId, recordOf } from './records.js';
-import { claim, isFull, openShelf } from './shelf.js';
+import { claim, openShelf, reasonOf } from './shelf.js';
 
 export const keep = { keeper: null, opening: null, id: null, term: null, free: null, untouched: null, when: 0, isNamed: false, isKept: false, told: null, isAsked: false, makeRoom: null, names: null };
 
@@ -46,7 +46,7 @@ keep.tried = async (act) => {
   try {
     await act();
   } catch (fault) {
-    say(fault instanceof FileFault ? fault.message : `${REASONS[isFull(fault) ? 'full' : 'refused']}.`, 'alarm', null, true);
+    say(fault instanceof FileFault ? fault.message : `${REASONS[reasonOf(fault)]}.`, 'alarm', null, true);
   }
 };
 
@@ -58,7 +58,7 @@ keep.named = (name, id = keep.id) => {
   keep.now();
 };
 
-const REASONS = { full: phrase('library.browsersStorageFull'), none: phrase('library.browserKeepsNothingPage'), refused: phrase('library.browsersStorageDoesNot') };
+const REASONS = { full: phrase('library.browsersStorageFull'), late: phrase('library.browsersStorageLate'), none: phrase('library.browserKeepsNothingPage'), refused: phrase('library.browsersStorageDoesNot') };
 
 keep.said = ({ kind, why, record }) => {
   const isKept = kind === 'kept';

@@ -3,7 +3,7 @@
 import { FileFault } from '../document/limits.js';
 import { phrase } from '../texts/phrase.js';
 import { cardOf, newId, readCard, readRecord } from './records.js';
-import { isFull } from './shelf.js';
+import { reasonOf } from './shelf.js';
 
 const RECORD = 'work:';
 const CARD = 'card:';
@@ -60,7 +60,7 @@ export class Keeper {
       this.said({ kind: this.shelf.lasts ? 'kept' : 'failed', why: this.shelf.lasts ? '' : 'none', record });
       return true;
     } catch (fault) {
-      this.said({ kind: 'failed', why: isFull(fault) ? 'full' : 'refused', record });
+      this.said({ kind: 'failed', why: reasonOf(fault), record });
       return false;
     }
   }

@@ -27,18 +27,35 @@ const whole = (shelf) => Object.assign(shelf, {
   listed: async (prefix) => (await shelf.listedAtOnce?.(prefix).catch(() => null)) ?? listedAlone(shelf, prefix),
 });
 
-// What was closed under the page is opened again at the next need. `blocked` is called where the database may open late.
-async function indexedShelf(home, blocked) {
+// What opens, and the same as long as it is waited for: it is refused once that takes long, or `open` calls what it is passed.
+function openTimed(open) {
+  /** @type {any} */
+  let giveUp;
+  const late = new Promise((_, reject) => { giveUp = () => reject(new DOMException('the database does not open', 'TimeoutError')); });
+  const timer = setTimeout(giveUp, SHELF_WAIT);
+  const opening = open(giveUp).finally(() => clearTimeout(timer));
+  return { opening, inTime: Promise.race([opening, late]) };
+}
+
+// What was closed under the page is opened again at the next need. Where that takes long, all is refused until it is open, and `moved` is
+// called then. `blocked` is called where the database may open late at first.
+async function indexedShelf(home, blocked, moved) {
   let opened = null;
-  const open = async () => {
+  const open = async (isBlocked) => {
     const request = home.indexedDB.open(SHELF_NAME, 1);
     request.onupgradeneeded = () => request.result.createObjectStore('kept');
-    request.onblocked = blocked;
+    request.onblocked = isBlocked;
     const database = await settledRequest(request);
     return Object.assign(database, { onclose: () => { opened = null; }, onversionchange: () => { database.close(); opened = null; } });
   };
-  const ready = () => (opened ??= open().catch((fault) => { opened = null; throw fault; }));
-  await ready();
+  const reopen = () => {
+    const { opening, inTime } = openTimed(open);
+    opening.then(() => { opened = opening; }, () => { opened = null; });
+    inTime.catch(() => opening.then(moved, () => {}));
+    return inTime;
+  };
+  const ready = () => (opened ??= reopen());
+  await (opened = open(blocked));
   const read = async (ask) => ask((await ready()).transaction('kept', 'readonly').objectStore('kept'));
   // A write is kept once its transaction is complete.
   const write = (act) => ready().then((database) => new Promise((resolve, reject) => {
@@ -145,24 +162,18 @@ function shelfUntil(first, late, moved) {
 
 /** The best shelf that the browser has; `home` is the window. Never fails. `moved` is called where it is a database that opened late from now on. */
 export async function openShelf(home, moved = () => {}) {
-  /** @type {any} */
-  let giveUp;
-  const late = new Promise((_, reject) => { giveUp = reject; });
-  const timer = setTimeout(giveUp, SHELF_WAIT);
-  const database = indexedShelf(home, giveUp);
+  const { opening, inTime } = openTimed((isBlocked) => indexedShelf(home, isBlocked, moved));
   try {
-    const shelf = await Promise.race([database, late]);
+    const shelf = await inTime;
     await (async () => takeOver(localShelf(home.localStorage), shelf))().catch(() => {}); // of a start at which it did not open
     return shelf;
   } catch {
-    return shelfUntil(shelfWithout(home), database, moved);
-  } finally {
-    clearTimeout(timer);
+    return shelfUntil(shelfWithout(home), opening, moved);
   }
 }
 
-/** Whether a shelf refused because it is full. */
-export const isFull = (fault) => fault?.name === 'QuotaExceededError' || fault?.name === 'NS_ERROR_DOM_QUOTA_REACHED';
+/** Why a shelf refused something. */
+export const reasonOf = (fault) => ({ QuotaExceededError: 'full', NS_ERROR_DOM_QUOTA_REACHED: 'full', TimeoutError: 'late' })[fault?.name] ?? 'refused';
 
 /**
  * Takes a name for this tab alone: resolves to what gives it back, or to null where another tab has it. By the browser's

@@ -64,7 +64,7 @@ export const libraryListed = () => view.listed;
 async function fillLibrary() {
   const keeper = await keep.ready();
   if (keep.keeper.writing) await keep.keeper.writing;
-  view.cards = await keeper.cards().catch(() => []);
+  await keep.tried(async () => { view.cards = await keeper.cards(); }); // else what was listed stays
   view.shown = FIRST;
   view.section.hidden = view.cards.length === 0;
   showCards();

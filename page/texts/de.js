@@ -519,6 +519,7 @@ export const DE = /** @type {const} */ ({
   'play.numberCellRoundFalls': 'Die Zahl in einem Feld ist die Runde, in der es bestimmt wird; ? braucht mehr als Linienlogik.',
   // ---- library
   'library.browsersStorageFull': 'Der Speicher des Browsers ist voll',
+  'library.browsersStorageLate': 'Der Speicher des Browsers öffnet sich nicht',
   'library.browserKeepsNothingPage': 'Dieser Browser bewahrt für diese Seite nichts auf',
   'library.browsersStorageDoesNot': 'Der Speicher des Browsers nimmt es nicht an',
   'library.yourWorkTabAlone': '{why}: Ihre Arbeit ist nur in diesem Tab. Speichern Sie sie in einer Datei (Strg+S).',

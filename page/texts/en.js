@@ -519,6 +519,7 @@ export const EN = /** @type {const} */ ({
   'play.numberCellRoundFalls': 'The number in a cell is the round in which it is settled; ? needs more than line logic.',
   // ---- library
   'library.browsersStorageFull': 'The browser’s storage is full',
+  'library.browsersStorageLate': 'The browser’s storage does not open',
   'library.browserKeepsNothingPage': 'This browser keeps nothing for this page',
   'library.browsersStorageDoesNot': 'The browser’s storage does not take it',
   'library.yourWorkTabAlone': '{why}: your work is only in this tab. Save it to a file (Ctrl+S).',

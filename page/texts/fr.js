@@ -519,6 +519,7 @@ export const FR = /** @type {const} */ ({
   'play.numberCellRoundFalls': 'Le nombre dans une case est le tour où elle est déterminée ; ? demande plus que la logique ligne par ligne.',
   // ---- library
   'library.browsersStorageFull': 'La mémoire du navigateur est pleine',
+  'library.browsersStorageLate': 'La mémoire du navigateur ne s’ouvre pas',
   'library.browserKeepsNothingPage': 'Ce navigateur ne garde rien pour cette page',
   'library.browsersStorageDoesNot': 'La mémoire du navigateur ne l’accepte pas',
   'library.yourWorkTabAlone': '{why} : votre travail n’est que dans cet onglet. Enregistrez-le dans un fichier (Ctrl+S).',

@@ -374,6 +374,28 @@ test('a database that is closed under the page is opened again at the next need,
     assert.deepEqual([requests.length, said.at(-1), (await kept(keeper))[0][0]], [3, 'kept', 'd']);
 });
 
+test('a database that does not open again in the time for it is told, nothing waits for it, and what is kept goes there once it does', async () => {
+    const [requests, said, line, plain] = [[], [], saidLine(), globalThis.setTimeout];
+    let moved = 0;
+    const opened = openShelf({ localStorage: null, indexedDB: databaseOf(entries(record('a', 1)), { requests }) }, () => { moved++; });
+    requests[0].onsuccess();
+    const keeper = new Keeper(await opened, ({ kind, why }) => said.push([kind, why]));
+    requests[0].result.onversionchange();
+    globalThis.setTimeout = (f, ms) => plain(f, ms > 5000 ? 5 : ms);
+    const put = keeper.put(record('b', 2));
+    await Promise.race([put, pause(200)]);
+    globalThis.setTimeout = plain;
+    assert.deepEqual(said, [['failed', 'late']]);
+    await Promise.all([keeper.put(record('b', 3)), assert.rejects(keeper.cards(), { name: 'TimeoutError' })]);
+    keep.said({ kind: 'failed', why: 'late', record: record('b', 3) });
+    assert.match(line.text, /^The browser’s storage does not open: your work is only in this tab/);
+    assert.deepEqual([requests.length, moved], [2, 0]);
+    requests[1].onsuccess();
+    await pause(1);
+    await keeper.put(record('b', 4));
+    assert.deepEqual([requests.length, moved, said.at(-1), (await kept(keeper)).map(([id]) => id)], [2, 1, ['kept', ''], ['b', 'a']]);
+});
+
 // The browser's locks, as far as a claim asks for them.
 function locks() {
     const held = new Set();
