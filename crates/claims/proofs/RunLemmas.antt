@@ -37,8 +37,7 @@ use Rattle.program.specs.Files.{HasFailed, Held, Holds, IsContent, IsUnread, IsU
 use Rattle.program.specs.Run.{AnswersAll, IsTask}
 use Rattle.program.specs.Work.{CarriesOut, IsHalfRead, Works}
 use Rattle.program.specs.World.{IsStopped, World}
-use Rattle.published.specs.Laws.{AreAccepted, ArePublished, background_in}
-use Rattle.published.specs.Laws.{PairsAreAccepted as Published}
+use Rattle.published.specs.Laws.{AreAccepted, ArePublished, PairsAreAccepted as Published, background_in}
 use Rattle.published.specs.Printed.{HasWritten, OneFileIsOneDocument, StartedAreAccepted}
 use Rattle.published.specs.Proofs.{AreVerified, ProofsAreVerified}
 use Rattle.claims.proofs.OutcomeLemmas.{fails}

@@ -1,6 +1,5 @@
 -- Bytes of a line: blanks, digits, words and numbers.
-use Rattle.std.specs.Prelude.{ℕ, Bool, true, false, ◌&&◌, List, [], ◌∷◌, take, drop, nat_le}
-use Rattle.std.specs.Prelude.{if◌then◌else◌}
+use Rattle.std.specs.Prelude.{ℕ, Bool, true, false, ◌&&◌, List, [], ◌∷◌, take, drop, nat_le, if◌then◌else◌}
 use Rattle.std.specs.List.{list_all, position_or_len}
 unfoldable pub use Rattle.picture.specs.Blanks.{is_blank}
 pub use Rattle.picture.specs.Blanks.{is_no_blank}
