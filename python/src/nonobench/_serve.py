@@ -18,6 +18,7 @@ from ._library import DONE, Desk, version
 # picture answers to lines; for a certificate with lemmas; or for an assessment, which a certificate may help.
 CHECK, PUBLISHED, SESSION, PROVE, ASSESS = 1, 2, 3, 4, 5
 
+NO_MEMORY = 9  # the status of a process whose memory has ended
 STREAM = 0  # of a process that answers: questions come there, and answers go
 FRAME = struct.Struct("!6Q")  # a number, and the sizes of its parts
 
@@ -127,5 +128,7 @@ def serve(memory: int) -> None:
             status, texts = answer(kind, *files)
             alarm(0)
             write(STREAM, framed(number, b"%d" % status, *texts))
-    except (EOFError, OSError, MemoryError):
+    except (EOFError, OSError):
         return
+    except MemoryError:
+        os._exit(NO_MEMORY)

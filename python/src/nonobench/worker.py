@@ -5,7 +5,6 @@ from __future__ import annotations
 import math
 import operator
 import os
-import select
 import signal
 import sys
 import threading
@@ -16,6 +15,7 @@ from typing import Optional
 from ._calls import Questions
 from ._library import version
 from ._process import Child, uninterrupted, waited
+from ._serve import NO_MEMORY
 
 # After so many seconds more than it may take, a question ends the process by itself, should nobody be there to end it.
 _GRACE = 2
@@ -110,16 +110,6 @@ class _Process(Child):
 
     def __init__(self, memory: int) -> None:
         super().__init__("_serve", memory, ("-S", "-B"), cwd="/", start_new_session=True)
-        self._has_begun = False  # whether it has said so, as this package's program does
-
-    def answers(self) -> list[tuple[int, list[bytes]]]:
-        """As of any such process."""
-        try:
-            return super().answers()
-        except EOFError:
-            said = self._process.stdout
-            self._has_begun = bool(said and select.select([said], [], [], 0)[0] and os.read(said.fileno(), 1))
-            raise
 
     def why(self) -> Exception:
         """What is told of a process that ended in the middle of a question: by status 1 Python tells what its program raised."""
@@ -129,7 +119,7 @@ class _Process(Child):
             return RuntimeError("the worker's program failed; it says why on standard error")
         if self.status() == -signal.SIGXCPU:
             return TimeoutError("no answer within its processor time")
-        is_python = self._has_begun or self.status() < 0
+        is_python = self.status() < 0 or self.status() == NO_MEMORY
         return MemoryError("the worker ended") if is_python else OSError(_NO_PYTHON.format(sys.executable))
 
     def ask(self, number: int, kind: int, files: tuple[bytes, ...], seconds: float, processor: int) -> tuple[int, list[bytes]]:

@@ -242,12 +242,11 @@ class Lines(Sink):
         self._output.put(line)
         return place
 
-    def text(self, place: int) -> str:
+    def line(self, place: int) -> bytes:
         """The row that was written at a place."""
         self._output.flush()
-        with telling(self._output.name):
-            self.file.seek(place)
-            return self.file.readline().decode("ascii")[:-1]
+        self.file.seek(place)
+        return self.file.readline()
 
     def keep(self, place: int) -> None:
         """Takes the row at a place as the next one."""
@@ -266,8 +265,7 @@ class Lines(Sink):
             return
         with self._output.replaced() as new:
             for place in self._order:
-                self.file.seek(place)
-                new.put(self.file.readline())
+                new.put(self.line(place))
 
 
 def _count(file: BinaryIO) -> int:

@@ -50,9 +50,8 @@ def bytes_of(path: str, whose: str = "", is_real: bool = True) -> bytes:
         handle = os.open(path, os.O_NONBLOCK | os.O_CLOEXEC | (os.O_NOFOLLOW if is_real else 0))
         try:
             found = os.fstat(handle)
-            is_folder, is_changed = stat.S_ISDIR(found.st_mode), path.endswith("/")  # it stands for what lies in it, and was listed before
-            need(not is_folder, f"the folder {path} changed" if is_changed else "this folder is not read")
-            need(stat.S_ISREG(found.st_mode), "this is not a file")
+            folder = f"the folder {path} changed" if path.endswith("/") else "this folder is not read"  # it stands for what lies in it
+            need(stat.S_ISREG(found.st_mode), folder if stat.S_ISDIR(found.st_mode) else "this is not a file")
             need(found.st_size <= MOST_BYTES, f"more than {MOST_BYTES} bytes")
             if is_real and os.readlink(b"/proc/self/fd/%d" % handle) != os.fsencode(path):
                 is_link = os.fstat(handle).st_nlink

@@ -345,12 +345,13 @@ class Run:
 
     def _size_of(self, answer: Answer) -> int:
         """The bytes that an answer takes while it waits, about, with the places of rows that are as they were."""
-        return EACH * (1 + len(self._kept[answer.number].rows)) + len(answer.text) + len(answer.certificate)
+        rows = self._kept[answer.number].rows if answer.verdict == "same" else ()
+        return EACH * (1 + len(rows)) + len(answer.text) + len(answer.certificate)
 
     def _text_of(self, answer: Answer) -> str:
         """The row of an answer, whose certificate is written where it came with it."""
         if answer.place is not None and self._lines is not None:
-            return self._lines.text(answer.place)
+            return self._lines.line(answer.place).decode("ascii")[:-1]
         return answer.text if not answer.certificate else certificates.delivered(answer, self._kept[answer.number].to)
 
     def _release(self, number: int) -> None:

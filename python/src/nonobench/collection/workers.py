@@ -2,7 +2,6 @@
 
 from __future__ import annotations
 
-import heapq
 import itertools
 import json
 import marshal
@@ -77,7 +76,7 @@ class Pool:
         self._seconds = seconds
         self._hands: list[Hand] = []
         self._hung: list[Hand] = []  # those that could not be ended
-        self._again: list[Task] = []  # a heap: what others wait for goes first
+        self._again: list[Task] = []
         self._died: set[tuple[int, int]] = set()
         self._failures = 0
         self._tasks: Iterator[Task] = iter(())
@@ -139,10 +138,12 @@ class Pool:
 
     def _next(self) -> Optional[Task]:
         begun = [hand.tasks[0].number for hand in self._hands if hand.tasks]
-        if self._is_full() and begun and not (self._again and self._again[0].number < min(begun)):
+        first = min(self._again, default=None)  # what others wait for goes first
+        if self._is_full() and begun and not (first and first.number < min(begun)):
             return None
-        if self._again:
-            return heapq.heappop(self._again)
+        if first:
+            self._again.remove(first)
+            return first
         task = next(self._tasks, None) if self._has_more else None
         self._has_more = task is not None
         return task
@@ -193,7 +194,7 @@ class Pool:
         if answer.is_last or task.mode == GLANCE:
             hand.tasks.popleft()
             if not answer.is_last:
-                heapq.heappush(self._again, task._replace(start=task.start + 1, mode=FULL, spent=0.0, used=used, has_more=False))
+                self._again.append(task._replace(start=task.start + 1, mode=FULL, spent=0.0, used=used, has_more=False))
         else:
             hand.tasks[0] = task._replace(start=json.loads(answer.text)["puzzle"] + 1, used=used)
 
@@ -212,7 +213,7 @@ class Pool:
                 hand.leave()
             elif len(hand.tasks) > 1 and hand.is_left and quiet > STUCK + TICK:  # it began no other before it was told
                 while len(hand.tasks) > 1:
-                    heapq.heappush(self._again, hand.tasks.pop())
+                    self._again.append(hand.tasks.pop())
 
     def _bound(self, task: Task) -> float:
         """The seconds that a puzzle has. One that has had them all is looked at in a few more."""
@@ -247,8 +248,7 @@ class Pool:
             task = task._replace(used=task.used + time.monotonic() - hand.since)
             why = late or (f"its process ended by signal {-status}" if status < 0 else f"its process ended with status {status}")
             yield from self._blame(hand, task, why, bool(late))
-        for task in tasks:
-            heapq.heappush(self._again, task)
+        self._again += tasks
 
     def _is_over(self, task: Task) -> bool:
         """Whether the puzzles of a file have taken all the time that one file has."""
@@ -259,7 +259,7 @@ class Pool:
         is_tried = is_late or (task.number, task.start) in self._died
         is_unread = hand.has_more is None and (task.start > 1 or hand.is_reading)  # the puzzle was not reached
         if task.before:  # kept rows were compared, and no puzzle was begun: all are judged anew
-            heapq.heappush(self._again, task._replace(used=0.0, before="", kept=()))
+            self._again.append(task._replace(used=0.0, before="", kept=()))
         elif task.start > 1 and self._is_over(task) or is_tried and task.mode == FULL and is_unread:
             over = f"the puzzles before it have taken more than {MOST_TIMES * (self._seconds or 0):g} seconds" if self._is_over(task) else why
             row: Row = {"file": task.name, "puzzle": task.start, "verdict": "error", "error": f"{over}: neither it nor those behind it are judged"}
@@ -272,10 +272,10 @@ class Pool:
                 row["seconds"] = self._seconds
             yield from self._give_up(task, row, kind == "more", certificate)
         elif is_late and task.mode == FULL:
-            heapq.heappush(self._again, task._replace(mode=GLANCE, spent=self._seconds or 0.0, has_more=bool(hand.has_more)))
+            self._again.append(task._replace(mode=GLANCE, spent=self._seconds or 0.0, has_more=bool(hand.has_more)))
         elif not is_tried:
             self._died.add((task.number, task.start))
-            heapq.heappush(self._again, task)
+            self._again.append(task)
         else:
             has_more = hand.has_more or task.has_more
             row = {"file": task.name, **place_of(task.start, has_more)}
@@ -286,7 +286,7 @@ class Pool:
         """Tells the row of a puzzle whose process is gone. The puzzles after it are still to come."""
         yield Answer(task.number, not has_more, row["verdict"], text_of(row), certificate)
         if has_more:
-            heapq.heappush(self._again, task._replace(start=row["puzzle"] + 1, mode=FULL, spent=0.0, has_more=False))
+            self._again.append(task._replace(start=row["puzzle"] + 1, mode=FULL, spent=0.0, has_more=False))
 
 
 def _is_set(task: Task) -> bool:
