@@ -9,7 +9,6 @@ from __future__ import annotations
 import argparse
 import itertools
 import os
-import queue
 import sys
 import traceback
 from concurrent.futures import ThreadPoolExecutor
@@ -128,9 +127,7 @@ class Checks:
     def __init__(self, told: argparse.Namespace) -> None:
         self._jobs = told.jobs
         self._allowed = told.allowed
-        self._workers: queue.SimpleQueue[Worker] = queue.SimpleQueue()
-        for _ in range(told.jobs):
-            self._workers.put(Worker(told.seconds, told.memory << 20, told.processor))
+        self._workers = [Worker(told.seconds, told.memory << 20, told.processor) for _ in range(told.jobs)]  # as many as threads
 
     def answers(self, pairs: Iterator[Pair]) -> Iterator[Answer]:
         """What is said of each, in order."""
@@ -141,7 +138,7 @@ class Checks:
 
     def _answer(self, pair: Pair) -> Answer:
         (file, path, found), certificate = pair, b""
-        worker = self._workers.get()
+        worker = self._workers.pop()
         try:
             certificate = bytes_of(path)
             givens = b"" if found.givens is None else bytes_of(found.givens, "its givens: ")
@@ -155,7 +152,7 @@ class Checks:
         except (Unreadable, OSError, RuntimeError) as error:  # of the last ones none is known but of a machine that lacks something
             return Answer(file, UNREAD, str(error))
         finally:
-            self._workers.put(worker)
+            self._workers.append(worker)
         return Answer(file, REFUSED, "; ".join(f"flaw {flaw}" for flaw in flaws)) if flaws else Answer(file, ACCEPTED)
 
 
