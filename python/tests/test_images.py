@@ -7,11 +7,14 @@ import json
 import os
 import re
 import shutil
+import struct
 import subprocess
 import sys
 import tempfile
+import time
 import unittest
 import unittest.mock
+import zlib
 from pathlib import Path
 
 HERE = Path(__file__).resolve().parent
@@ -127,6 +130,19 @@ class Pictures(unittest.TestCase):
             found = subprocess.run([sys.executable, "-c", code], check=True, capture_output=True, text=True).stdout.strip()
             with self.subTest(data):
                 self.assertEqual(found, "damaged" if b" 9 9" in data else "[b'1', b'2', b'3']" if b"P6" in data else "[b'0', b'0', b'0']")
+
+    def test_many_parts_take_little_time(self):
+        """15 MiB of a stranger's empty parts: no more of them are looked at than an image has."""
+        chunk = struct.pack(">I4sI", 0, b"IDAT", zlib.crc32(b"IDAT"))
+        webp = b"RIFF%sWEBP" + b"ABCD\0\0\0\0" * (15 << 17)
+        gif = b"GIF89a\1\0\1\0\0\0\0"
+        for data in (b"\x89PNG\r\n\x1a\n" + chunk * 1310720, gif + b"!\xfe\0" * (5 << 20), gif + b"!\xfe" + b"\1x" * (15 << 19),
+                     gif + (b"!\xfe" + b"\1x" * 999 + b"\0") * 7800, webp.replace(b"%s", struct.pack("<I", len(webp) - 6))):
+            began = time.process_time()
+            with self.subTest(data[:20]), self.assertRaises(nonobench.ImageFault) as caught:
+                nonobench.picture_of_image(data)
+            self.assertEqual(caught.exception.name, "damaged")
+            self.assertLess(time.process_time() - began, 1.5)
 
     def test_what_is_missing_is_not_black(self):
         from PIL import ImageFile

@@ -26,6 +26,7 @@ DAMAGED, UNKNOWN = "damaged", "of a kind that is not read"
 
 Pixel = tuple[int, ...]  # red, green, blue, and its opacity, 0 or 255
 CLEAR: Pixel = (0, 0, 0, 0)
+MOST_PARTS = 1 << 17  # chunks and blocks of an image
 MOST_BEHIND = 1 << 16  # bytes of a PNG's data behind its last row
 
 
@@ -49,8 +50,7 @@ def colour_shown(colour: Colour, maxval: int) -> Colour:
 def picture_of_image(data: Bytes, background: Colour = WHITE) -> bytes:
     """The P3 text of a PNG, GIF, BMP, WebP, PGM, PBM or raw PPM image, a cell for each pixel as a browser shows it.
 
-    Transparent pixels get the background. Raises ImageFault if the image is refused, and ImportError if it needs Pillow, and there
-    is none.
+    Transparent pixels get the background. Raises ImageFault if the image is refused, and ImportError if Pillow is missing for it.
     """
     pixels = pixels_of(bytes_of(data))
     return picture_of(pixels.columns, len(pixels.cells) // pixels.columns, pixels.triples(background))
@@ -162,7 +162,7 @@ def _chunks(data: bytes) -> Iterator[tuple[bytes, bytes]]:
 
 
 def _png(data: bytes) -> Pixels:
-    chunks = list(_chunks(data))
+    chunks = list(itertools.islice(_chunks(data), MOST_PARTS))
     order = "".join(_CHUNKS.get(name, "a" if name[0] & 0x20 else "?") for name, _ in chunks)
     _need(_ORDER.fullmatch(order))
     held = dict(chunks)
@@ -238,7 +238,7 @@ _LOOPS = (b"NETSCAPE2.0", b"ANIMEXTS1.0")  # how often frames come, of which the
 def _gif(data: bytes) -> Pixels:
     columns, rows, flags = struct.unpack_from("<HHB", data, 6)
     _bounded(columns, rows)
-    at = _behind_table(13, flags)
+    at, parts = _behind_table(13, flags), 0
     table, frame = data[13:at], b""
     key: Optional[int] = None
     told: list[Optional[int]] = []
@@ -246,6 +246,8 @@ def _gif(data: bytes) -> Pixels:
         begun, sign = at, data[at]
         if sign == 0x21:
             at, (body, *more) = _blocks(data, at + 2)
+            parts += 1 + len(more)
+            _need(parts < MOST_PARTS)
             _need(not body.startswith(b"ICCRGBG1"), PROFILE)
             # Where a block does not say how often frames come, browsers show no image.
             _need(body not in _LOOPS or (more and all(len(block) > 2 and block[0] & 7 in (1, 2) for block in more)))
@@ -278,6 +280,7 @@ def _blocks(data: bytes, at: int) -> tuple[int, list[bytes]]:
     """Where the blocks of a GIF end that begin at a place, and what is in them: an empty one where there is none."""
     blocks = []
     while data[at]:
+        _need(len(blocks) < MOST_PARTS)
         blocks.append(data[at + 1 : at + 1 + data[at]])
         at += 1 + data[at]
     return at + 1, blocks or [b""]
@@ -314,7 +317,7 @@ def _webp(data: bytes) -> Pixels:
     at, chunks = 12, []
     while at < end:
         name, size = struct.unpack_from("<4sI", data, at)
-        _need(at + 8 + size <= end)
+        _need(at + 8 + size <= end and len(chunks) < MOST_PARTS)
         chunks.append((name, data[at + 8 : at + 8 + size]))
         at += 8 + size + size % 2
     _need(at == end)  # browsers show none that leaves out the byte behind an odd chunk
