@@ -24,13 +24,14 @@ export async function archiveOf(records, others = [], start = undefined, progres
   return (await withClues(records, start, progress, add)) && zip.bytes;
 }
 
-/** Hands records to the user as an archive under a name, and says a text of it. */
-export async function saveArchive(records, { file, text, kind = '', others = [] }) {
-  const bytes = await withProgress(phrase('import.saveAllZip'), (progress) => archiveOf(records, others, undefined, progress));
-  if (!bytes) return;
+/** Hands records to the user as an archive under a name, and says a text of it; answers whether that was stopped. */
+export const saveArchive = (records, { file, text, kind = '', others = [] }) => withProgress(phrase('import.saveAllZip'), async (progress) => {
+  const bytes = await archiveOf(records, others, undefined, progress);
+  if (!bytes) return progress.isStopped;
   download(bytes, file, SAVE_TYPES.zip.type);
   say(text, kind, null, true);
-}
+  return false;
+});
 
 /** All pictures of the library, null where one is damaged; the one at hand is as it is seen, also where the storage does not take that. */
 export async function allRecords() {

@@ -69,6 +69,8 @@ class Table {
     this.judge = new Judge({ seconds: Math.min(MOST_SECONDS, secondsChosen()) });
     /** @type {Mender | null} */
     this.mender = null;
+    /** @type {Promise<boolean> | null} */
+    this.saving = null;
     const table = make('table', { id: 'several' }, make('thead', {}, make('tr', {}, ...headsOf(rows))), make('tbody', {}, ...rows.map((row) => row.element)));
     for (const row of this.puzzles) hearRow(row, () => table.closest('dialog'));
     this.count = make('p', { id: 'several-count', role: 'status' });
@@ -108,6 +110,14 @@ class Table {
     this.repair.disabled = !this.puzzles.some((row) => row.isAmbiguous);
   }
 
+  // Hands all pictures to the user, with a report; answers whether that was stopped.
+  saveZip() {
+    const { puzzles, rows } = this;
+    const what = { file: 'nonobench puzzles.zip', text: phrase('import.picturesSavedNonobenchPuzzles', { pictures: puzzles.length }), others: [{ name: 'report.csv', bytes: csvOf(rows) }] };
+    this.saving ??= saveArchive(puzzles, what).finally(() => { this.saving = null; });
+    return this.saving;
+  }
+
   end() {
     this.judge.end();
     this.mender?.end();
@@ -123,22 +133,18 @@ export async function takeSeveral(units, imageDocs) {
   return showRows(rows, units.some(hasCertificate) ? [make('p', { class: 'faint' }, phrase('import.certificatesNotChecked'))] : []);
 }
 
-/** Shows rows in a table. Judging goes on while it is open. */
+/** Shows rows in a table. Judging goes on while it is open, and it stays where a zip of them is stopped. */
 export async function showRows(rows, notes = []) {
   const table = new Table(rows, notes);
   const { puzzles } = table;
   const chosen = openDialog({
     title: phrase('import.puzzles', { puzzles: puzzles.length }), wide: true, content: table.element,
-    buttons: [{ name: phrase('view.close'), value: null }, ...(puzzles.length ? [{ name: phrase('import.saveAllZip'), value: 'zip' }, { name: phrase('import.addLibrary'), value: 'library', main: true }] : [])],
+    buttons: [{ name: phrase('view.close'), value: null }, ...(puzzles.length ? [{ name: phrase('import.saveAllZip'), value: 'zip', test: () => table.saveZip() }, { name: phrase('import.addLibrary'), value: 'library', main: true }] : [])],
   });
   const judged = table.judgeAll();
   const way = await chosen;
   table.end();
   await judged;
   if (way === 'library') await keepAll(puzzles);
-  if (way === 'zip') {
-    const report = { name: 'report.csv', bytes: csvOf(rows) };
-    await saveArchive(puzzles, { file: 'nonobench puzzles.zip', text: phrase('import.picturesSavedNonobenchPuzzles', { pictures: puzzles.length }), others: [report] });
-  }
   return true;
 }

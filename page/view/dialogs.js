@@ -6,7 +6,7 @@ import { phrase } from '../texts/phrase.js';
 /**
  * Opens a dialog and resolves to the value of the button that closed it, or to null for Escape or Cancel.
  * `content` is an element or a text; `buttons` are {name, value, main, test}: where `test` gives a text, that is shown
- * and the dialog stays.
+ * and the dialog stays; so it does where it gives true.
  * @param {{title: string, content?: any, wide?: boolean, buttons?: {name: string, value: any, main?: boolean, test?: () => any}[]}} what
  */
 export function openDialog({ title, content = '', buttons = [{ name: 'OK', value: true, main: true }], wide = false }) {
@@ -20,8 +20,9 @@ export function openDialog({ title, content = '', buttons = [{ name: 'OK', value
     let chosen = null;
     const press = async (button) => {
       wrong.textContent = '';
-      wrong.textContent = (await button.test?.()) || '';
-      if (wrong.textContent) return;
+      const found = (await button.test?.()) || '';
+      wrong.textContent = found === true ? '' : found;
+      if (found) return;
       chosen = typeof button.value === 'function' ? button.value() : button.value;
       dialog.close();
     };

@@ -373,25 +373,27 @@ export async function stopsWithinFile({ browser, url, folder }) {
     await page.close();
 }
 
-/** An archive is made picture by picture; Stop ends that, and nothing is saved or said. */
+/** An archive is made picture by picture; Stop ends that, nothing is saved or said, and the table of the pictures stays. */
 export async function archiveStops({ browser, url, folder }) {
     const { page, own } = await fresh(browser, url, folder, 'archive-stops', { before: NO_PICKERS + KEEPING });
+    await dropFiles(page, ['a.ppm', 'b.ppm'].map((name) => [name, ppmOf(['aa.', '.a.'])]));
+    await page.until(() => /^2 pictures of 2/.test(document.getElementById('several-count')?.textContent), 20000 * SLACK);
     const toZip = async () => {
-        await dropFiles(page, ['a.ppm', 'b.ppm'].map((name) => [name, ppmOf(['aa.', '.a.'])]));
-        await page.until(() => /^2 pictures of 2/.test(document.getElementById('several-count')?.textContent), 20000 * SLACK);
         await page.run(() => { kept.length = 0; window.keeps = ({ call }) => call === 'open'; });
         await page.click('dialog[open] .buttons button:nth-of-type(2)');
         await page.until(() => kept.length === 1 && document.querySelector('dialog[open] .progress')?.textContent === '0 of 2', 20000 * SLACK);
     };
     await toZip();
     await page.press('Enter');
-    await page.until(() => !document.querySelector('dialog[open]') && kept[0].isEnded, 5000 * SLACK);
+    await page.until(() => !document.querySelector('dialog[open] .progress') && kept[0].isEnded, 5000 * SLACK);
+    assert.equal(await page.run(() => document.querySelector('dialog[open] #several') !== null), true);
     assert.deepEqual([await said(page), readdirSync(own).filter((name) => name.endsWith('.zip'))], ['', []]);
     await page.run(() => { window.keeps = null; });
     await toZip();
     await page.run(() => { window.keeps = null; kept[0].go(); });
     await downloaded(page, own, 'puzzles.zip');
     assert.equal(await said(page), '2 pictures saved as “nonobench puzzles.zip”, with a report.');
+    await page.until(() => !document.querySelector('dialog[open]'), 5000 * SLACK);
     await page.close();
 }
 
