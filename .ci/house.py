@@ -249,8 +249,9 @@ COUNTS = (
     ('rows worked out beside a definition', lambda: lone(True), 7),
     # `assess`, `assess_text` and the call `nonobench_assess` replace what hosts compute in scripts; `prove` takes givens, and searches
     # without bounds
-    # `nonobench assess`, the checker alone (`text_check`, `check_host`), and a search that explains several exclusions at once
-    ('code lines', code_lines, 18700),
+    # `nonobench assess`, the checker alone (`text_check`, `check_host`), a search that explains several exclusions at once, and one
+    # in the turn that all turns of a picture share
+    ('code lines', code_lines, 18935),
     # the same, `cert_figures` and `grade_text`; a checker that has all its memory before it begins; a law that trees which are told
     # step by step are proofs with lemmas
     ('lines of specs, lemmas and answers', proof_lines, 55224),
