@@ -429,6 +429,28 @@ class Strangers(Case):
         rows = self.rows_of("site", "--givens", "mine", "--untrusted")
         self.assertEqual([rows[name]["givens"] for name in ("one.ppm", "one.ppm.ppm")], [[[1, 1]], [[2, 2]]])
 
+    def test_each_file_of_the_operators_is_of_one_puzzle(self):
+        """Of that with its whole name, else of the only one with its stem; and where two have that it is an error of both."""
+        mine, names = self.folder / "mine", ("a.ppm", "a.ppm.ppm", "a.ppm.xml", "b.gif", "b.png", "c.2.png", "c.xml", "d.ppm.ppm", "e.ppm", "e.xml")
+        mine.mkdir()
+        for name in names:
+            self.put(name, "")
+        for called in ("a.ppm", "b", "b.png", "c.2", "d.ppm", "e"):
+            for end in finding.TOLD:
+                (mine / f"{called}{end}").write_text("")
+        own = {"a.ppm": "a.ppm", "b.gif": "b", "b.png": "b.png", "c.2.png": "c.2", "d.ppm.ppm": "d.ppm", "e.ppm": "e", "e.xml": "e"}
+        for untrusted in (False, True):
+            found = {os.path.basename(one.path): one for one in finding.find([str(self.site)], finding.Places(None, str(mine), untrusted))}
+            for name in names:
+                why = f"its givens: {own.get(name)}.givens may be another puzzle's: call it {name}.givens" if name in ("b.gif", "e.ppm", "e.xml") else ""
+                wanted = [own.get(name) and str(mine / f"{own[name]}{end}") for end in finding.TOLD]
+                with self.subTest(name, untrusted=untrusted):
+                    self.assertEqual(([found[name].givens, found[name].background], found[name].why), (wanted, why))
+        (mine / "e.givens").unlink()
+        self.put("e.ppm", p3(UNIQUE))
+        row = self.rows_of("site/e.ppm", "--givens", "mine", status=3)["e.ppm"]
+        self.assertEqual(row["error"], "its background: e.background may be another puzzle's: call it e.ppm.background")
+
     def test_strangers_do_not_say_which_certificates_of_the_operators_count(self):
         """In a folder of their own names alone tell: those after the whole name come first, for each puzzle."""
         self.put("one.ppm", p3(UNIQUE))

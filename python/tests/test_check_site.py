@@ -149,8 +149,8 @@ def test_a_folder_that_is_a_link_is_not_followed(site, checked, tmp_path):
 
 
 def test_files_of_a_picture_that_is_called_as_another_one_with_its_suffix(site, checked, tmp_path):
-    """`one.ppm.givens` beside `one.ppm` and `one.ppm.ppm` is that of the second. In a folder of their own, names alone tell: it is
-    that of both, whatever else strangers have.
+    """`one.ppm.givens` beside `one.ppm` and `one.ppm.ppm` is that of the second. In a folder of their own it is that of the
+    first, whatever else strangers have.
     """
     pair(site, "one", CROSS, ONE)
     pair(tmp_path / "ours", "one.ppm", None, None, givens="given 1 1\n")
@@ -168,7 +168,7 @@ def test_files_of_a_picture_that_is_called_as_another_one_with_its_suffix(site, 
         (site / "one.ppm.ppm").rename(tmp_path / "gone")
         (tmp_path / "gone").rmdir() if (tmp_path / "gone").is_dir() else (tmp_path / "gone").unlink()
     pair(site, "one.ppm", CROSS, ONE)
-    assert checked("site", "--givens", "ours") == (0, [])
+    assert checked("site", "--givens", "ours") == (1, ["site/one.ppm.cert: certificate UnpublishedGiven at line 2"])
     pair(tmp_path / "ours", "one.ppm.ppm", None, None, givens="given 2 2\n")
     assert checked("site", "--givens", "ours") == (1, ["site/one.ppm.cert: certificate UnpublishedGiven at line 2"])
 

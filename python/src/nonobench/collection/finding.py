@@ -321,16 +321,28 @@ def _found(folder: Folder, name: str) -> Found:
     stem = os.path.splitext(name)[0]
     called = stem if _is_own(folder, name) else name if name not in folder.taken else name + NO_NAME
     beside = [*folder.unlisted, *_certificates(folder, name, stem)]
-    # What is called after a whole name is of the puzzle with it and a suffix; but strangers do not say whose the operator's are.
-    told, of = folder.told or NONE, stem if folder.stems[name] and not folder.is_apart else name
-    ways = ([folder.told_in + called for called in called_beside(of, stem, end) if called in told] for end in TOLD)
-    givens, background = (next(iter(way), None) for way in ways)
-    if folder.told is None:
-        givens = folder.told_in or "."
+    (givens, why), (background, other) = (_told(folder, name, end) for end in TOLD)
     newer = {of for of, ending, _ in beside if ending == ENDINGS[0]}
     read = tuple((of, place) for of, ending, place in beside if ending == ENDINGS[0] or of not in newer)
     unread = tuple(place for of, ending, place in beside if ending != ENDINGS[0] and of in newer)
-    return Found(folder.real + name, shown(folder.prefix + name), folder.front + called, read, givens, background, unread)
+    return Found(folder.real + name, shown(folder.prefix + name), folder.front + called, read, givens, background, unread, why or other)
+
+
+def _told(folder: Folder, name: str, end: str) -> tuple[Optional[str], str]:
+    """The givens of a puzzle, or its background; and why it is not known whether they are. In a folder of their own those after a whole
+    name are of the puzzle with it, as certificates are, and those after a stem of the only one with it; beside puzzles those after both
+    are of all with the stem.
+    """
+    if folder.told is None:
+        return (folder.told_in or ".") if end == TOLD[0] else None, ""
+    stem = os.path.splitext(name)[0]
+    ways = (name, name if _is_puzzle(folder, stem) else stem) if folder.is_apart else (stem if folder.stems[name] else name, stem)
+    called = next((one for one in called_beside(*ways, end) if one in folder.told), None)
+    if called is None:
+        return None, ""
+    is_shared = folder.is_apart and os.path.splitext(called)[0] != name and not _is_alone(folder, name)
+    why = f"its {end[1:]}: {shown(called)} may be another puzzle's: call it {shown(name + end)}" if is_shared else ""
+    return folder.told_in + called, why
 
 
 def _certificates(folder: Folder, name: str, stem: str) -> list[Named]:
