@@ -150,8 +150,8 @@ verify, prove = _here.verify, _here.prove
 def picture_of(columns: int, rows: int, triples: Iterable[Colour], maxval: int = 255) -> bytes:
     """A P3 text of cells by rows, each a red, a green and a blue from 0 to maxval."""
     cells = list(triples)
-    if len(cells) != columns * rows:
-        raise ValueError(f"{columns} by {rows} cells need {columns * rows} colours, not {len(cells)}")
+    if min(columns, rows) < 1 or len(cells) != columns * rows or not all(0 <= sample <= maxval for cell in cells for sample in cell):
+        raise ValueError(f"{columns} by {rows} cells need {columns * rows} colours up to {maxval}, and at least one; not these {len(cells)}")
     lines = [f"P3\n{columns} {rows}\n{maxval}", *(f"{red:d} {green:d} {blue:d}" for red, green, blue in cells)]
     return ("\n".join(lines) + "\n").encode("ascii")
 
