@@ -645,6 +645,9 @@ class Strangers(Case):
         # A folder that is not there is none, and a link that leads to one is what that is.
         (self.folder / "told" / "sub").unlink()
         os.symlink("told", self.folder / "mine")
+        done = self.run_audit("site", "--givens", "mine", "--allow", "9", status=3)
+        self.assertIn("nonobench-audit: mine: no file of givens or background in it is of one of these puzzles\n", done.stderr)
+        (self.folder / "told" / "one.background").write_text("white")
         self.rows_of("site", "--givens", "mine", status=0)
 
     def test_what_one_puzzle_has_no_need_of_is_anothers(self):
@@ -963,7 +966,7 @@ class Names(Case):
         self.put("mine/one.givens", b"given 1 1\n")
         for option, (one, other), status in (
             ("--givens", ("bob/in", "eve/in"), 2), ("--certificates", ("bob/in", "eve/in"), 2), ("--givens", ("bob/in/one.ppm", "eve/in/one.ppm"), 2),
-            ("--givens", ("bob/in/one.ppm", "eve/in/two.ppm"), 1), ("--givens", ("bob", "eve"), 1),
+            ("--givens", ("bob/in/one.ppm", "eve/in/two.ppm"), 1), ("--givens", ("bob", "eve"), 3),
             # Files that are called after the whole name of the first: mine/one.ppm.givens.
             ("--givens", ("bob/in/one.ppm", "eve/one.ppm.ppm"), 2), ("--givens", ("bob/in/one.ppm", "ann/one.ppm.ppm"), 2),
             ("--certificates", ("eve/one.ppm.ppm", "bob/in/one.ppm"), 2), ("--certify", ("eve/one.ppm.ppm", "bob/in/one.ppm"), 1),

@@ -143,6 +143,7 @@ def test_a_folder_that_is_a_link_is_not_followed(site, checked, tmp_path):
     assert checked("site", "--certificates", "certs", "--givens", "ours") == (3, whys)
     # The folders themselves may be links, or lie behind one.
     (tmp_path / "ours" / "sub").unlink()
+    pair(tmp_path / "ours", "sub/one", None, None, givens="")
     (tmp_path / "link").symlink_to(".")
     (tmp_path / "way").symlink_to("certs")
     assert checked("link/site", "--certificates", "way", "--givens", "link/ours") == (0, [])
@@ -210,8 +211,11 @@ def test_givens_and_backgrounds_of_the_site_and_not_of_strangers(site, checked, 
     ours = tmp_path / "ours"
     ours.mkdir()
     refused = ["site/filled.cert: certificate NotDone at line 4", "site/given.cert: certificate UnpublishedGiven at line 2"]
-    assert checked("site", "--givens", "ours") == (1, refused)
     assert checked("site", "--untrusted") == (1, refused)
+    (ours / "other.givens").write_text("")
+    none = "ours/: no file of givens or background in it is of one of these puzzles"
+    assert checked("site", "--givens", "ours") == (3, [*refused, none])
+    assert none not in checked("site", "--givens", "ours", "--shard", "1/2")[1]
     (ours / "filled.background").write_text("255,0,255")
     (ours / "given.givens").write_text("given 1 1")
     assert checked("site", "--givens", "ours", *allowed) == (0, [])

@@ -38,7 +38,8 @@ STATUSES = """status:
   0  every certificate is accepted, names published givens alone, and its puzzle has no flaw
   1  some are refused, have flaws, or take too much time or memory
   2  the arguments are wrong
-  3  a file is missing or cannot be read, a folder cannot be searched or changes meanwhile, or there is nothing to check"""
+  3  a file is missing or cannot be read, a folder cannot be searched or changes meanwhile, there is nothing to check, or nothing in
+     the folder of --givens is of a puzzle"""
 
 
 class Answer(NamedTuple):
@@ -64,7 +65,7 @@ class Site:
         finding.begin(told.folder, told.certificates, told.givens)
         finding.note(told.folder, (*finding.HELD, *finding.TOLD, *finding.SUFFIXES, finding.FOLDERS))
         finding.note(told.certificates and self._places.certificates, (*finding.HELD, finding.FOLDERS))
-        self._shard = told.shard
+        self._shard, self._givens, self._is_told = told.shard, told.givens, False
         self.unsearched: list[Answer] = []
         self.unread: list[Answer] = []  # in whose place another certificate is
         self.bare: list[Answer] = []  # pictures without any
@@ -111,7 +112,15 @@ class Site:
             front = os.path.join(os.path.dirname(name), "")
             folder = finding.pictures_in(self._folder, front, self._places)
             file, certificate = (os.path.join(way, name) for way in (self._certificates, self._places.certificates or ""))
-            yield file, certificate, finding.picture_of(folder, os.path.basename(name).rpartition(".")[0])
+            found = finding.picture_of(folder, os.path.basename(name).rpartition(".")[0])
+            self._is_told = self._is_told or found.is_told()
+            yield file, certificate, found
+
+    def late(self) -> Iterator[Answer]:
+        """What is known once all pairs are answered."""
+        if self._givens is not None and not self._is_told and self._shard[1] == 1:
+            yield Answer(os.path.join(self._givens, ""), UNREAD, f"no {finding.UNTOLD} in it is of one of these puzzles")
+        yield from (Answer(folder, UNREAD, finding.CHANGED) for folder in finding.changed())
 
 
 def _background(path: Optional[str]) -> Optional[Triple]:
@@ -190,8 +199,7 @@ def _run(told: argparse.Namespace) -> int:
         site.unsearched.append(Answer(os.path.join(told.certificates or told.folder, ""), UNREAD, "there is no certificate"))
     counts = {ACCEPTED: 0, REFUSED: 0, UNREAD: 0}
     required, named = (site.bare, []) if told.every_picture else ([], site.bare)
-    changed = (Answer(folder, UNREAD, finding.CHANGED) for folder in finding.changed())  # once the others are answered
-    for answer in itertools.chain(site.unsearched, Checks(told).answers(site.pairs(names)), required, changed):
+    for answer in itertools.chain(site.unsearched, Checks(told).answers(site.pairs(names)), required, site.late()):
         counts[answer.status] += 1
         if answer.status != ACCEPTED:
             print(line_of(answer), flush=True)

@@ -22,6 +22,7 @@ HELD, TOLD = tuple(f".{ending}" for ending in ENDINGS), (".givens", ".background
 FOLDERS = "/"  # among endings: folders count, whatever their names
 MADE = (".cert", ".ppm", ".givens", ".background")  # what an audit writes, below a folder of the same shape
 CHANGED = "something in it came, went or was written while it was read"
+UNTOLD = "file of givens or background"
 DEEPEST = 100  # folders within each other below a PATH: what one costs grows with its depth
 NO_NAME = "\0"  # in what nothing is written to, since folders have its names
 Named = tuple[int, str, str]  # a certificate: the puzzle of the file that it is for, from 1; how its name ends; its path
@@ -51,6 +52,10 @@ class Found(NamedTuple):
     background: Optional[str]
     unread: tuple[str, ...] = ()  # the certificates with an older ending that others take the place of
     why: str = ""  # it cannot be read
+
+    def is_told(self) -> bool:
+        """Whether there are givens or a background with it."""
+        return (self.givens, self.background) != (None, None)
 
 
 class Folder(NamedTuple):

@@ -16,7 +16,7 @@ from .._library import version
 from . import certificates
 from .arguments import Options, options_of
 from .earlier import Earlier, kept_digest, read_row, to_check
-from .finding import CHANGED, NONE, Names, Places, changed, find, folders_of, is_among, is_in_share, order_of, real_place
+from .finding import CHANGED, NONE, UNTOLD, Names, Places, changed, find, folders_of, is_among, is_in_share, order_of, real_place
 from .outputs import CLOSED, Failure, Lines, Output, Sheet, Table, hold_streams, kept_folder, lines_of, telling
 from .progress import Progress
 from .rows import Row, printable, row_of, text_of
@@ -126,6 +126,7 @@ class Run:
         self._next = 0
         self._since = time.monotonic()  # when that came to be the next
         self._beside = 0  # how many certificates lie beside the puzzles
+        self._is_told = False  # whether there are givens or a background of one
         self._unread: list[str] = []  # those of an older name that are not read
         self._lost: list[str] = []  # those of puzzles that their files do not have
         self._old: list[str] = []  # what was written of puzzles that are not unique now
@@ -231,6 +232,7 @@ class Run:
             number += 1
             self._beside += len(found.beside)
             self._unread += found.unread
+            self._is_told = self._is_told or found.is_told()
             to, published = (name and self._way(os.path.join(name, found.stem), shut) for name, shut in ((options.certify, NONE), (options.publish, read)))
             rows = [] if self._earlier is None else self._earlier.rows(found.name)
             before = kept_digest(rows, settings.made, settings.limit, to, published)
@@ -267,8 +269,9 @@ class Run:
         if status:
             for number in sorted(self._complete):
                 self._release(number)
-        if is_whole and options.certificates is not None and options.shard == (1, 1) and self._beside == len(self._lost):
-            failures.append(Failure(f"{options.certificates}: no certificate in it is of one of these puzzles"))
+        ours = (options.certificates, "certificate", self._beside == len(self._lost)), (options.givens, UNTOLD, not self._is_told)
+        wrong = [(way, what) for way, what, is_unused in ours if way is not None and is_unused and is_whole and options.shard == (1, 1)]
+        failures += [Failure(f"{way}: no {what} in it is of one of these puzzles") for way, what in wrong]
         is_none = is_whole and not self._tally.total and not self._is_elsewhere
         if is_none:
             failures.append(Failure(f"no puzzles in {', '.join(options.paths)}"))
