@@ -4,8 +4,8 @@
 For each claim it takes the clauses and laws by name. From the names in them, through the imports of each file, it collects all
 definitions in specs/ that they need, in reading order. Then it adds those by which a clause sees its values: the views of their
 types (.ci/views.py). docs/BASE.md lists these with file, line and the comment's first sentence. It
-must be what this script makes, and quotes the definitions of QUOTED. No claim may need more lines than MOST says, and no name may
-mean two things in the base of a claim but those of SHARED. README.md must name the lines of FIGURES.
+must be what this script makes, and quotes the definitions of QUOTED. CLAIMS says how many lines a claim may need, and whether a name
+may mean two things in its base. README.md must name the lines of FIGURES.
 
 Usage: .ci/base.py [--write | --counts]: --write writes docs/BASE.md, and --counts prints only the counts.
 """
@@ -13,6 +13,7 @@ import collections
 import re
 import sys
 from pathlib import Path
+from typing import NamedTuple
 
 sys.dont_write_bytecode = True
 from views import RustTypes, named_in, values_of, views_of  # noqa: E402
@@ -20,54 +21,42 @@ from views import RustTypes, named_in, values_of, views_of  # noqa: E402
 ROOT = Path(__file__).resolve().parent.parent
 CRATES = ROOT / 'crates'
 PAGE = ROOT / 'docs' / 'BASE.md'
-# The claims of README: a title, and the clauses that carry it, each as a file, a function and a clause ('' is the one without
-# a name).
+
+
+class Claim(NamedTuple):
+    """A claim of README: the clauses that carry it, each as a file, a function and a clause ('' is the one without a name).
+
+    It may need so many lines at most, by its clauses and with the views: a larger number needs its reason in docs/DECISIONS.md. In the
+    base of some claims a name may mean two things: they span formats, each with words and lines of its own.
+    """
+    clauses: list
+    most: tuple
+    is_shared: bool = True
+
+
 CLAIMS = {
-    'The verdict is true': [('live_audit/src/bench.rt', 'verdict', 'headline')],
-    'A certificate proves uniqueness': [('answers/src/check.rt', 'run_check_published', 'unique')],
-    'So it does in its own givens': [('answers/src/check.rt', 'run_check', 'unique')],
-    'A check answers exactly': [('cert_check/src/checking.rt', 'check_cert', name) for name in ('first', 'proof', 'only', 'unique')],
-    'The checker alone does so, too': [('check_host/src/calls.rt', call, 'checks') for call in ('nonocheck_check', 'nonocheck_check_published')],
-    'A refused edit changes nothing': [('live_audit/src/bench.rt', call, 'refused') for call in ('apply', 'undo', 'redo')],
-    'It stays true': [('live_audit/src/laws.rt', 'lists_stay_audited', '')],
-    "A session's answers are right": [('session/src/session.rt', 'run_session', 'truth')],
-    'Published pairs are accepted': [
+    'The verdict is true': Claim([('live_audit/src/bench.rt', 'verdict', 'headline')], (60, 210), False),
+    'A certificate proves uniqueness': Claim([('answers/src/check.rt', 'run_check_published', 'unique')], (238, 238), False),
+    'So it does in its own givens': Claim([('answers/src/check.rt', 'run_check', 'unique')], (371, 371)),
+    'A check answers exactly': Claim([
+        ('cert_check/src/checking.rt', 'check_cert', name) for name in ('first', 'proof', 'only', 'unique')
+    ], (316, 321)),
+    'The checker alone does so, too': Claim([
+        ('check_host/src/calls.rt', call, 'checks') for call in ('nonocheck_check', 'nonocheck_check_published')
+    ], (732, 732)),
+    'A refused edit changes nothing': Claim([
+        ('live_audit/src/bench.rt', call, 'refused') for call in ('apply', 'undo', 'redo')
+    ], (143, 231), False),
+    'It stays true': Claim([('live_audit/src/laws.rt', 'lists_stay_audited', '')], (1203, 1203)),
+    "A session's answers are right": Claim([('session/src/session.rt', 'run_session', 'truth')], (1686, 1772)),
+    'Published pairs are accepted': Claim([
         *(('published/src/laws.rt', 'published_pairs_are_accepted', name) for name in ('accepted', 'made')),
         *(('published/src/laws.rt', law, '') for law in ('unique_pictures_are_published', 'plain_lines_are_one_solution')),
-    ],
-    'What prove prints is accepted': [('published/src/laws.rt', 'proofs_are_verified', '')],
-    'A complete search decides': [('published/src/laws.rt', 'complete_searches_decide', '')],
-    'A puzzle that is fit has one solution': [('published/src/laws.rt', 'fit_puzzles_are_fit', '')],
-    'The program does what its arguments ask for': [('program/src/running.rt', 'run', '')],
-}
-# The most lines that a claim may need, by its clauses and with the views: a larger number needs its reason in docs/DECISIONS.md.
-MOST = {
-    'The verdict is true': (60, 210),
-    'A certificate proves uniqueness': (238, 238),
-    'So it does in its own givens': (371, 371),
-    'A check answers exactly': (316, 321),
-    'The checker alone does so, too': (732, 732),
-    'A refused edit changes nothing': (143, 231),
-    'It stays true': (1203, 1203),
-    "A session's answers are right": (1686, 1772),
-    'Published pairs are accepted': (2245, 2320),
-    'What prove prints is accepted': (744, 744),
-    'A complete search decides': (735, 735),
-    'A puzzle that is fit has one solution': (1787, 1787),
-    'The program does what its arguments ask for': (3480, 3480),
-}
-# The claims in whose base a name may mean two things: they span formats, each with words and lines of its own.
-SHARED = {
-    'So it does in its own givens',
-    'A check answers exactly',
-    'The checker alone does so, too',
-    'It stays true',
-    "A session's answers are right",
-    'Published pairs are accepted',
-    'What prove prints is accepted',
-    'A complete search decides',
-    'A puzzle that is fit has one solution',
-    'The program does what its arguments ask for',
+    ], (2245, 2320)),
+    'What prove prints is accepted': Claim([('published/src/laws.rt', 'proofs_are_verified', '')], (744, 744)),
+    'A complete search decides': Claim([('published/src/laws.rt', 'complete_searches_decide', '')], (735, 735)),
+    'A puzzle that is fit has one solution': Claim([('published/src/laws.rt', 'fit_puzzles_are_fit', '')], (1787, 1787)),
+    'The program does what its arguments ask for': Claim([('program/src/running.rt', 'run', '')], (3480, 3480)),
 }
 # From this many words on, a comment's first sentence is shortened in docs/BASE.md.
 LONG = 35
@@ -291,7 +280,7 @@ class Base:
 def bases():
     """The base of each claim."""
     house, rust = House(), RustTypes(CRATES)
-    return {title: Base(house, rust, clauses) for title, clauses in CLAIMS.items()}
+    return {title: Base(house, rust, claim.clauses) for title, claim in CLAIMS.items()}
 
 
 def size(definitions):
@@ -321,7 +310,7 @@ def page(found):
     parts, known = [HEAD], set()
     quoted = {definition for title in QUOTED for definition in found[title].all()}
     for title, base in found.items():
-        names = ', '.join(f'`{function}`{f" ({clause})" if clause else ""}' for _, function, clause in CLAIMS[title])
+        names = ', '.join(f'`{function}`{f" ({clause})" if clause else ""}' for _, function, clause in CLAIMS[title].clauses)
         parts.append(f'## {title}\n\n{names}: {counts(base)}.\n')
         fresh = [definition for definition in base.definitions if definition not in known]
         views = [definition for definition in base.views if definition not in known]
@@ -346,10 +335,10 @@ def faults(found):
     if not PAGE.exists() or PAGE.read_text(encoding='utf-8') != page(found):
         yield 'docs/BASE.md is not what .ci/base.py --write makes'
     for title, base in found.items():
-        for definitions, most in zip((base.definitions, base.all()), MOST[title]):
+        for definitions, most in zip((base.definitions, base.all()), CLAIMS[title].most):
             if size(definitions) > most:
                 yield f'{title}: {size(definitions)} lines, and at most {most} are allowed'
-        for name, files in doubles(base.definitions).items() if title not in SHARED else ():
+        for name, files in doubles(base.definitions).items() if not CLAIMS[title].is_shared else ():
             yield f'{title}: {name} means two things: {", ".join(files)}'
 
 
