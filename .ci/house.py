@@ -102,20 +102,17 @@ def parameters(inside):
     return [it.strip() for it in found if it.strip()]
 
 
-def long_heads():
-    """Functions of more than six parameters."""
+def functions_with(is_counted):
+    """Functions whose parameters are such as are counted."""
     for file, text in sources('src', '.rt'):
         for name, inside, number in heads(text):
-            if len(parameters(inside)) > MOST_PARAMETERS:
+            if is_counted(parameters(inside)):
                 yield f'{place(file, number)} {name}'
 
 
-def carried_counters():
-    """Functions that carry a counter by `&mut`: a meter, or a number of evaluations, splits or parts."""
-    for file, text in sources('src', '.rt'):
-        for name, inside, number in heads(text):
-            if any(re.fullmatch(r'\w+: &mut (Meter|u32|u64)', it) for it in parameters(inside)):
-                yield f'{place(file, number)} {name}'
+def has_counter(found):
+    """Whether a counter is among parameters that is carried by `&mut`: a meter, or a number of evaluations, splits or parts."""
+    return any(re.fullmatch(r'\w+: &mut (Meter|u32|u64)', it) for it in found)
 
 
 def other_pictures():
@@ -149,33 +146,28 @@ def code_lines():
 
 def proof_lines():
     """Lines of specs, lemmas and answers that are not blank."""
-    for part in ('specs', 'proofs'):
-        for file, text in sources(part, '.antt'):
-            for number, line in enumerate(text.split('\n'), 1):
-                if line.strip():
-                    yield place(file, number)
+    for file, text in proof_sources():
+        for number, line in enumerate(text.split('\n'), 1):
+            if line.strip():
+                yield place(file, number)
 
 
 def lone_definitions():
     """Definitions and lemmas whose name stands nowhere else, with whether each is a row worked out at fixed values, which tests
     what it names."""
-    texts = [text for part in ('specs', 'proofs') for _, text in sources(part, '.antt')] + [text for _, text in sources('src', '.rt')]
-    words = {}
-    for text in texts:
-        for word in re.findall(r"[^\s(){},.;:λ]+", text):
-            words[word] = words.get(word, 0) + 1
-    for part in ('specs', 'proofs'):
-        for file, text in sources(part, '.antt'):
-            if file.name in PROVERS_NAMES:
-                continue
-            for found in re.finditer(r'(?m)^(?:(?:abbrev|unfoldable|opaque|pub)\s+)*([A-Za-z_][\w-]*)\s*:\s', text):
-                name = found[1]
-                if words.get(name, 0) > text.count(f'\n{name}') + 2:
-                    continue  # some of its places begin no line
-                heads_of = len(re.findall(rf'(?m)^{re.escape(name)}\b', text))
-                if words.get(name, 0) <= max(heads_of, 1) + (1 if re.search(rf'(?m)^(?:\w+\s+)+{re.escape(name)}\s*:', text) else 0):
-                    worked = bool(re.search(rf'(?m)^{re.escape(name)} = refl$', text))
-                    yield f'{place(file, text.count(chr(10), 0, found.start()) + 1)} {name}', worked
+    texts = (text for _, text in itertools.chain(proof_sources(), sources('src', '.rt')))
+    words = collections.Counter(word for text in texts for word in re.findall(r"[^\s(){},.;:λ]+", text))
+    for file, text in proof_sources():
+        if file.name in PROVERS_NAMES:
+            continue
+        for found in re.finditer(r'(?m)^(?:(?:abbrev|unfoldable|opaque|pub)\s+)*([A-Za-z_][\w-]*)\s*:\s', text):
+            name = found[1]
+            if words[name] > text.count(f'\n{name}') + 2:
+                continue  # some of its places begin no line
+            heads_of = len(re.findall(rf'(?m)^{re.escape(name)}\b', text))
+            if words[name] <= max(heads_of, 1) + (1 if re.search(rf'(?m)^(?:\w+\s+)+{re.escape(name)}\s*:', text) else 0):
+                worked = bool(re.search(rf'(?m)^{re.escape(name)} = refl$', text))
+                yield f'{place(file, text.count(chr(10), 0, found.start()) + 1)} {name}', worked
 
 
 def lone(is_worked):
@@ -239,8 +231,8 @@ COUNTS = (
     ('lists of lists of numbers in specs without a sort', lambda: unsorted_grids('specs'), 125),
     ('lists of lists of numbers in proofs without a sort', lambda: unsorted_grids('proofs'), 441),
     # the second is `nonobench_assess`, for hosts in C: two of its texts may be left out
-    ('functions above 6 parameters', long_heads, 2),
-    ('functions that carry a counter by &mut', carried_counters, 13),
+    ('functions above 6 parameters', lambda: functions_with(lambda found: len(found) > MOST_PARAMETERS), 2),
+    ('functions that carry a counter by &mut', lambda: functions_with(has_counter), 13),
     # the text of a flaw stands in `assess_text` and, below the search, in `check_host`; conversions of errors of a check have one shape
     ('pairs of source files that share six lines of one shape', lambda: shared_places(sources('src', '.rt'), shape), 130),
     ('pairs of specs or proofs that share six lines', lambda: shared_places(proof_sources(), str), 24),
