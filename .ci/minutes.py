@@ -53,12 +53,10 @@ def crate_of(words):
 
 def below(top, parents):
     """The processes that come of one, itself among them."""
-    found = {top}
-    grown = True
-    while grown:
-        more = {number for number, parent in parents.items() if parent in found} - found
+    found, more = set(), {top}
+    while more:
         found |= more
-        grown = bool(more)
+        more = {number for number, parent in parents.items() if parent in found} - found
     return found
 
 

@@ -288,14 +288,14 @@ def runs_of(name):
 
 
 def repetitions():
-    """What two of the documents that people read say alike: pairs of a place and what is repeated, each place once."""
+    """What two of the documents that people read say alike: a place and what is repeated, each place once."""
     seen, told = {}, set()
     for name in READ:
         for run, number in runs_of(name):
             other, at = seen.setdefault(run, (name, number))
             if other != name and (name, number) not in told:
                 told.add((name, number))
-                yield f"{name}:{number}", f"said at {other}:{at} too: {' '.join(run)} .."
+                yield f"{name}:{number}: said at {other}:{at} too: {' '.join(run)} .."
 
 
 def size_faults(is_listed):
@@ -332,26 +332,14 @@ def kit_fault():
 def main():
     words = sys.argv[1:]
     named = [w for w in words if not w.startswith("--")]
-    total = 0
-    for name in named or documents():
-        faults = sorted(faults_of(name))
-        total += len(faults)
-        for number, fault in faults:
-            print(f"{name}:{number}: {fault}")
+    told = [f"{name}:{number}: {fault}" for name in named or documents() for number, fault in sorted(faults_of(name))]
     if not named:
         mean = mean_sentence("README.md")
         print(f"prose: README has {mean:.1f} words a sentence")
-        if mean > README_MEAN:
-            total += 1
-            print(f"README may have {README_MEAN} words a sentence")
-        for place, fault in repetitions():
-            total += 1
-            print(f"{place}: {fault}")
-        for fault in [*size_faults("--sizes" in words), *filter(None, [kit_fault()])]:
-            total += 1
-            print(fault)
-    print(f"prose: {total} faults")
-    return 1 if total else 0
+        told += [f"README may have {README_MEAN} words a sentence"] if mean > README_MEAN else []
+        told += [*repetitions(), *size_faults("--sizes" in words), *filter(None, [kit_fault()])]
+    print(*told, f"prose: {len(told)} faults", sep="\n")
+    return 1 if told else 0
 
 
 sys.exit(main())
