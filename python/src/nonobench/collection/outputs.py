@@ -322,19 +322,17 @@ class Table(Sink):
         super().__init__(Output("-"))
         self._clear = clear  # takes a bar away before lines are printed
         self.is_closed = False
-        self._put(HEAD)
+        self.say(HEAD)
         self.flush()
-
-    def _put(self, line: str) -> None:
-        self._output.put((line + "\n").encode(sys.stdout.encoding or "utf-8", "backslashreplace"))
 
     def put(self, text: str, row: Row) -> None:
         """Puts a row."""
-        self._guard(lambda: self._put(table_line(row)))
+        self.say(table_line(row))
 
     def say(self, lines: str) -> None:
-        """Puts lines that are no rows."""
-        self._guard(lambda: self._put(lines))
+        """Puts lines, also such that are no rows."""
+        said = (lines + "\n").encode(sys.stdout.encoding or "utf-8", "backslashreplace")
+        self._guard(lambda: self._output.put(said))
 
     def flush(self) -> None:
         """Prints what has waited for a moment."""

@@ -366,17 +366,14 @@ class Run:
     def _deliver_waiting(self, number: int) -> None:
         self._fresh.pop(number, None)
         for answer in self._waiting.pop(number, ()):
-            self._deliver_answer(answer)
-
-    def _deliver_answer(self, answer: Answer) -> None:
-        self._size -= self._size_of(answer)
-        kept = self._kept[answer.number]
-        if answer.verdict == "same":
-            assert self._earlier is not None
-            for place, _ in kept.rows:
-                self._deliver(text_of(self._earlier.row(place)), place, kept)
-        elif answer.verdict != "none":
-            self._deliver(self._text_of(answer), answer.place, kept)
+            self._size -= self._size_of(answer)
+            kept = self._kept[number]
+            if answer.verdict == "same":
+                assert self._earlier is not None
+                for place, _ in kept.rows:
+                    self._deliver(text_of(self._earlier.row(place)), place, kept)
+            elif answer.verdict != "none":
+                self._deliver(self._text_of(answer), answer.place, kept)
 
     def _deliver(self, text: str, place: Optional[int] = None, kept: Kept = Kept(())) -> None:
         """Puts a row into what is written. One that has a place in the file of rows stays there."""
