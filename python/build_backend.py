@@ -18,7 +18,10 @@ CARRIED = (".py", ".html", ".css", ".js")
 # What is put below the folder of an environment: the recipes and their examples, where they lie beside this file.
 SHARED = "share"
 TAGS = "Wheel-Version: 1.0\nGenerator: nonobench\nRoot-Is-Purelib: {}\nTag: {}\n"
-METADATA = "Metadata-Version: 2.1\nName: {name}\nVersion: {version}\nSummary: {description}\nRequires-Python: {python}\n"
+METADATA = (
+    "Metadata-Version: 2.1\nName: {name}\nVersion: {version}\nSummary: {description}\nRequires-Python: {python}\n"
+    "Author: {author}\nLicense: {licence}\nKeywords: {keywords}\n"
+)
 # The first day that an archive can name: what is packed has this one, or that of SOURCE_DATE_EPOCH, so that its bytes are the same each time.
 FIRST_DAY = 315532800
 
@@ -32,7 +35,8 @@ def build_wheel(wheel_directory, config_settings=None, metadata_directory=None):
     tag = "py3-none-" + ("any" if is_pure else re.sub(r"\W", "_", platform))
     title = "{name}-{version}".format(**project)
     readme = (HERE / "README.md").read_text(encoding="utf-8")
-    more = "".join([*_lines_about(project), *_extra_lines(project["extras"])]) + "Description-Content-Type: text/markdown\n\n"
+    classifiers = (f"Classifier: {it}\n" for it in project["classifiers"])
+    more = "".join([*classifiers, *_extra_lines(project["extras"])]) + "Description-Content-Type: text/markdown\n\n"
     files[f"{title}.dist-info/METADATA"] = f"{METADATA.format(**project)}{more}{readme}".encode()
     files[f"{title}.dist-info/entry_points.txt"] = f"[console_scripts]\n{project['scripts']}\n".encode()
     shared = [file for file in sorted((HERE / SHARED).rglob("*")) if file.is_file()]
@@ -60,20 +64,13 @@ def _project():
     return {
         **project,
         **listed,
+        "keywords": ",".join(listed["keywords"]),
         "author": re.search(r'^authors = \[\{ name = "(.*)" \}\]$', text, re.MULTILINE)[1],
         "licence": re.search(r'^license = \{ text = "(.*)" \}$', text, re.MULTILINE)[1],
         "python": project["requires-python"],
         "extras": {name: re.findall(r'"([^"]+)"', words) for name, words in extras},
         "scripts": "\n".join(f"{name} = {call}" for name, call in scripts),
     }
-
-
-def _lines_about(project):
-    """The lines of the metadata that tell what the package is."""
-    yield f"Author: {project['author']}\n"
-    yield f"License: {project['licence']}\n"
-    yield f"Keywords: {','.join(project['keywords'])}\n"
-    yield from (f"Classifier: {it}\n" for it in project["classifiers"])
 
 
 def _extra_lines(extras):
