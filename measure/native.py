@@ -31,24 +31,19 @@ CELL = 'P3\n1 1\n255\n0 0 0\n'
 FIGURES = ('line', 'strokes', 'verdict', 'certify')
 
 
+def ended(words, said='', seconds=SECONDS):
+    """A run that has ended, or None where it takes too long."""
+    try:
+        return subprocess.run([str(word) for word in words], input=said, capture_output=True, text=True, timeout=seconds)
+    except subprocess.TimeoutExpired:
+        return None
+
+
 def collected(words, said=''):
     """The instructions of a run, and what it printed. None where it takes too long."""
-    tool = ['valgrind', '--tool=callgrind', '--callgrind-out-file=/dev/null']
-    try:
-        run = subprocess.run(tool + [str(w) for w in words], input=said, capture_output=True, text=True, timeout=50 * SECONDS)
-    except subprocess.TimeoutExpired:
-        return None, ''
-    told = re.search(r'Collected : (\d+)', run.stderr)
-    return (int(told.group(1)) if told else None), run.stdout
-
-
-def ends(words, said=''):
-    """Whether a run ends in time."""
-    try:
-        subprocess.run([str(w) for w in words], input=said, capture_output=True, text=True, timeout=SECONDS)
-    except subprocess.TimeoutExpired:
-        return False
-    return True
+    run = ended(['valgrind', '--tool=callgrind', '--callgrind-out-file=/dev/null', *words], said, 50 * SECONDS)
+    told = run and re.search(r'Collected : (\d+)', run.stderr)
+    return (int(told[1]) if told else None), run.stdout if run else ''
 
 
 def less(cost, start):
@@ -117,7 +112,7 @@ def compared(table, pictures, asked, theirs, starts):
     """A row for each picture: a session of one command, and a native program on it, both without their starts."""
     for picture in sorted(pictures.glob('*.ppm')):
         runs = ([OURS, 'work', picture], asked), theirs(picture)
-        costs = [collected(*run)[0] for run in runs] if all(ends(*run) for run in runs) else (None, None)
+        costs = [collected(*run)[0] for run in runs] if all(ended(*run) for run in runs) else (None, None)
         table.row(picture.stem, *map(less, costs, starts))
     table.end()
 
