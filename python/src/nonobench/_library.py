@@ -34,13 +34,6 @@ def _path() -> str:
     return next(filter(os.path.isfile, (os.path.join(FOLDER, NAME), os.path.join(checkout, "c", "out", NAME))), NAME)
 
 
-def _load(path: str) -> ctypes.CDLL:
-    try:
-        return ctypes.CDLL(path)
-    except OSError as error:
-        raise ImportError(f"cannot load {path}; build it with c/build, or set NONOBENCH_LIBRARY to its path: {error}") from error
-
-
 def _kinds() -> dict[str, tuple[Any, list[Any]]]:
     """What each call answers, and what it is passed."""
     cell = ctypes.POINTER(ctypes.c_void_p)
@@ -69,7 +62,10 @@ class _Calls:
     """The calls of the library, which the first of them loads."""
 
     def __getattr__(self, name: str) -> Any:
-        call = getattr(_load(PATH), name)
+        try:
+            call = getattr(ctypes.CDLL(PATH), name)
+        except OSError as error:
+            raise ImportError(f"cannot load {PATH}; build it with c/build, or set NONOBENCH_LIBRARY to its path: {error}") from error
         call.restype, call.argtypes = _kinds()[name.removeprefix("nonobench_")]
         setattr(self, name, call)
         return call

@@ -66,7 +66,8 @@ class Cluster:
         flying: deque[tuple[Any, list[Answer]]] = deque()  # what is being judged, with the answers of files that are not
         while True:
             for pack, told in itertools.islice(packs, max(0, self._room() - len(flying))):
-                flying.append((self._submit(pack), told))
+                words = version(), tuple(self._settings), self._seconds, zlib.compress(marshal.dumps([tuple(task) for task in pack]), 1)
+                flying.append((self._client.submit(judge_pack, *words, retries=RETRIES, pure=False), told))
             if not flying:
                 return
             found = self._result(*flying[0])
@@ -84,10 +85,6 @@ class Cluster:
         """How many packs are out at once: some for each thread of the workers that are there now."""
         threads: dict[str, int] = self._client.nthreads()
         return 4 + 2 * sum(threads.values())
-
-    def _submit(self, tasks: list[Task]) -> Any:
-        pack = zlib.compress(marshal.dumps([tuple(task) for task in tasks]), 1)
-        return self._client.submit(judge_pack, version(), tuple(self._settings), self._seconds, pack, retries=RETRIES, pure=False)
 
     def _result(self, future: Any, told: list[Answer]) -> Optional[list[Answer]]:
         """The answers of a pack in order, where they are there within a moment."""

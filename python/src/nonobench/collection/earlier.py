@@ -14,7 +14,6 @@ from .reading_rows import checked_row
 from .rows import Row, row_of, text_of
 from .serving import File
 
-
 # How a row begins: with its file, and the number of the puzzle where the file has several. The rest is read where it is wanted.
 MOST_FRONT = 1 << 16  # bytes
 _FRONT = re.compile(rb'\{"file":("(?:[^"\\]|\\.)*"),(?:"puzzle":([0-9]+),)?"')

@@ -181,11 +181,8 @@ def csv_cells(row: Row) -> list[Any]:
     cells["fit"] = {True: "yes", False: "no"}.get(row.get("fit", ""), "")
     cells["background"] = f"#{row['background']}" if "background" in row else ""
     cells["error"] = "; ".join(word for word in (row.get("error"), row.get("note")) if word)
-    return [_plain(cells.get(name, "")) for name in COLUMNS]
-
-
-def _plain(cell: Any) -> Any:
-    return ";".join(map(_no_formula, printable(cell).split(";"))) if isinstance(cell, str) else cell
+    found = [cells.get(name, "") for name in COLUMNS]
+    return [";".join(map(_no_formula, printable(cell).split(";"))) if isinstance(cell, str) else cell for cell in found]
 
 
 def _no_formula(text: str) -> str:
