@@ -237,12 +237,10 @@ def main():
     files = {name: (ROOT / name).read_text(encoding="utf-8") for name in names}
     module = pathlib.Path(sys.argv[1]).read_text(encoding="utf-8") if len(sys.argv) > 1 else None
     found = list(differences(files, module)) or list(unseen(files, module))
-    for line in found:
-        print(line)
     told, again = statuses(files)
     beside = "the module too" if module is not None else "no module was named"
-    print(f"abi: {len(exported(files[CALLS]) | exported(files[CHECK_CALLS]))} functions, {beside}; {len(told)} statuses in {len(again)} files; "
-          f"{len(PLANTED) + (module is not None)} planted; {len(found)} differences")
+    print(*found, f"abi: {len(exported(files[CALLS]) | exported(files[CHECK_CALLS]))} functions, {beside}; {len(told)} statuses in {len(again)} files; "
+          f"{len(PLANTED) + (module is not None)} planted; {len(found)} differences", sep="\n")
     return 1 if found else 0
 
 

@@ -360,9 +360,7 @@ def main():
     if '--write' in sys.argv[1:]:
         PAGE.write_text(page(found), encoding='utf-8')
     told = [*faults(found), *figures(found)]
-    for fault in told:
-        print(fault)
-    print(f'{len(found)} claims, {len(told)} faults')
+    print(*told, f'{len(found)} claims, {len(told)} faults', sep='\n')
     return 1 if told else 0
 
 

@@ -117,9 +117,7 @@ def main(words):
     if words:
         README.write_text(text, encoding='utf-8')
     found = list(faults(crates, text))
-    for fault in found:
-        print(fault)
-    print(f'crates: {len(found)} faults')
+    print(*found, f'crates: {len(found)} faults', sep='\n')
     return 1 if found else 0
 
 
