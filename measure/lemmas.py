@@ -13,15 +13,14 @@ import tempfile
 from pathlib import Path
 
 import native
+from others import Limit
 
 SECONDS = 10
 
 
 def said(words, asked=''):
     """What a command prints, or None if it takes too long."""
-    limit = ['bash', '-c', f'ulimit -t {SECONDS}; exec "$@"', 'limited']
-    run = subprocess.run(limit + [str(word) for word in words], input=asked, capture_output=True, text=True, check=False)
-    return run.stdout if run.returncode >= 0 else None
+    return Limit('.', SECONDS).run([str(word) for word in words], asked)[0]
 
 
 def answer(text):

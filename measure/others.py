@@ -289,11 +289,6 @@ def judged(task, answer):
     return 'ambiguous'
 
 
-def start(limit):
-    """The median time of a process that does nothing, which all times include."""
-    return median(limit.run(['true'])[1] for _ in range(51))
-
-
 def certificate(program, limit, words, asked, names):
     """The rows of a certificate: its length and the time to make it, and the time to check it. One that is refused is an error."""
     (_, picture), (make, check) = words, names
@@ -338,11 +333,6 @@ class Naming:
         return {'picture': picture.stem, 'class': next(fits, 'other'), 'tuned': 'yes' if picture.resolve() in self.tuned else ''}
 
 
-def earlier_rows(path):
-    """The rows of the other solvers from an earlier run, by the name of the picture."""
-    return by('picture', [row for row in of_solvers(read_rows(path)) if row['program'] != 'nonobench'])
-
-
 def kept_rows(earlier, own):
     """The earlier rows of a picture, whose row by nonobench is given. It is an error if they are missing, or if they disagree."""
     rows = earlier.get(own['picture'], [])
@@ -373,8 +363,10 @@ def main():
     program, naming, rows = str(Path(asked.program).resolve()), Naming(asked.classes, asked.tuned), []
     with tempfile.TemporaryDirectory() as folder:
         limit = Limit(folder, asked.seconds)
-        print(f'a process that does nothing: {1000 * start(limit):.1f} ms', file=sys.stderr)
-        earlier = earlier_rows(asked.others) if asked.others else None
+        nothing = median(limit.run(['true'])[1] for _ in range(51))  # which all times include
+        print(f'a process that does nothing: {1000 * nothing:.1f} ms', file=sys.stderr)
+        others = [row for row in of_solvers(read_rows(asked.others)) if row['program'] != 'nonobench'] if asked.others else []
+        earlier = by('picture', others)
         found = {'nonobench': by_nonobench(program)} if asked.others else solvers(program, folder)
         for picture in sorted(file for one in asked.folder for file in Path(one).rglob('*.ppm')):
             try:
