@@ -63,11 +63,6 @@ class Earlier:
                 others += 1
         return within, others
 
-    def row(self, place: int) -> Row:
-        """The row at a place, which was read before."""
-        self._lines.seek(place)
-        return dict(row_of(self._lines.readline()))
-
 
 def no_row(name: str, number: int, why: str) -> Failure:
     """What is said of a line that is no row."""

@@ -41,21 +41,14 @@ def _shown(puzzle: Puzzle, cells: int) -> tuple[list[str], str]:
     """The colours of a picture as shown, its background first, and the letter of each cell, in the order of docs/FORMATS.md."""
     _, _, most, raster = plain_words(puzzle.text[2:], 3)
     spots = raster.rstrip().split(b"\n", cells)  # mostly each cell has a line
-    words = _words(spots)
-    if len(spots) != cells or any(len(three) != 3 for three in words.values()):
+    if len(spots) != cells or any(len(spot.split()) != 3 for spot in set(spots)):
         spots = list(map(b" ".join, zip(*[iter(raster.split(None, 3 * cells)[: 3 * cells])] * 3)))
-        words = _words(spots)
-    triples = {spot: _triple(three) for spot, three in words.items()}
+    triples = {spot: _triple(spot.split()) for spot in dict.fromkeys(spots)}
     colours = dict.fromkeys([puzzle.background or _triple([most] * 3), *triples.values()])
     by_colour = dict(zip(colours, LETTERS))
     letters = {spot: by_colour[triple] for spot, triple in triples.items()}
     palette = ["%02x%02x%02x" % colour_shown(triple, _number(most)) for triple in colours]
     return palette, "".join(map(letters.__getitem__, spots))
-
-
-def _words(spots: list[bytes]) -> dict[bytes, list[bytes]]:
-    """The words of some texts, each once."""
-    return {spot: spot.split() for spot in dict.fromkeys(spots)}
 
 
 def graded(said: Assessment) -> Row:

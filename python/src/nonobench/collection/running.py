@@ -369,9 +369,9 @@ class Run:
             self._size -= self._size_of(answer)
             kept = self._kept[number]
             if answer.verdict == "same":
-                assert self._earlier is not None
+                assert self._lines is not None
                 for place, _ in kept.rows:
-                    self._deliver(text_of(self._earlier.row(place)), place, kept)
+                    self._deliver(self._lines.line(place).decode("utf-8"), place, kept)
             elif answer.verdict != "none":
                 self._deliver(self._text_of(answer), answer.place, kept)
 
