@@ -890,7 +890,7 @@ class Running(Case):
 
     def test_what_is_known_of_a_puzzle_gives_it_no_more_time(self):
         task = serving.Task(0, "one.ppm", "one.ppm", (), None, None, None, "", 1, serving.FULL)
-        hand = types.SimpleNamespace(tasks=deque([task]), cost=1.0, since=5.0, is_left=False, known=None)
+        hand = types.SimpleNamespace(tasks=deque([task]), cost=1.0, since=5.0, begun=5.0, is_left=False, known=None)
         pool = workers.Pool(None, 0, 10.0)
         for parts, is_further in (([b"known", b"unique", b"{}", b"last", b""], False), ([b"last", b"unique", b"{}", b"", b""], True)):
             hand.answers = lambda parts=parts: [(0, parts)]
