@@ -124,18 +124,15 @@ def blocks(text):
     """Gives (line number, info, lines) for each code block, and the text with those lines blank."""
     found, kept, inside = [], [], None
     for number, line in enumerate(text.split("\n"), 1):
-        if line.lstrip().startswith("```"):
-            if inside is None:
-                inside = (number, line.strip()[3:].strip(), [])
-                found.append(inside)
-            else:
-                inside = None
-            kept.append("")
+        is_fence = line.lstrip().startswith("```")
+        kept.append("" if is_fence or inside is not None else line)
+        if is_fence and inside is None:
+            inside = (number, line.strip()[3:].strip(), [])
+            found.append(inside)
+        elif is_fence:
+            inside = None
         elif inside is not None:
             inside[2].append(line)
-            kept.append("")
-        else:
-            kept.append(line)
     return found, kept
 
 

@@ -84,11 +84,6 @@ def of_javascript(folder):
     return told(["node", str(ROOT / "measure" / "rates.mjs"), module, str(folder / "pairs"), str(ROUNDS)])
 
 
-def write(pairs, file):
-    """Writes pairs as the programs for C and JavaScript read them."""
-    file.write_bytes(b"".join(struct.pack("<II", *map(len, pair)) + b"".join(pair) for pair in pairs))
-
-
 def told(words):
     """The rates that a program prints."""
     return [float(word) for word in subprocess.run(words, check=True, capture_output=True, text=True).stdout.split()]
@@ -101,7 +96,8 @@ def main():
     print(f"{'':12}{'checks':>10}{'verdicts':>10}{'with certificates':>19}")
     with tempfile.TemporaryDirectory() as name:
         folder = Path(name)
-        write(pairs, folder / "pairs")
+        # as the programs for C and JavaScript read them
+        (folder / "pairs").write_bytes(b"".join(struct.pack("<II", *map(len, pair)) + b"".join(pair) for pair in pairs))
         for name, rates in (("C", of_c(folder)), ("Python", of_python(pairs)), ("JavaScript", of_javascript(folder))):
             if rates is None:
                 print(f"{name:12} left out, since a tool or the module is missing")
