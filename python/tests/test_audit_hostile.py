@@ -1412,6 +1412,28 @@ class Changes(Case):
             readers.bytes_of(found.givens, "its givens: ")
 
 
+class Letters(Case):
+    """Names of files are bytes: whatever letters a locale has for them, a row is of the file that it names."""
+
+    def test_utf_8_mode_in_another_locale(self):
+        made = self.folder / "en_US.ISO-8859-1"
+        if shutil.which("localedef") is None or subprocess.run(["localedef", "-i", "en_US", "-f", "ISO-8859-1", made], capture_output=True, check=False).returncode:
+            self.skipTest("localedef makes no locale here")
+        for name, picture in ((b"\xc3\xa9.ppm", AMBIGUOUS), (b"\xe9.ppm", UNIQUE)):
+            Path(os.fsdecode(os.fsencode(self.site) + b"/" + name)).write_bytes(p3(picture))
+        for mode in "01":
+            words = {"LC_ALL": "en_US.ISO-8859-1", "LOCPATH": str(self.folder), "PYTHONUTF8": mode}
+            rows = self.rows("site", "--certify", "out", status=1, **words)
+            self.assertEqual({name: row["verdict"] for name, row in rows.items()}, {"site/é.ppm": "ambiguous", "site/\\xe9.ppm": "unique"})
+            self.assertEqual(os.listdir(os.fsencode(self.folder / "out")), [b"\xe9.cert"])
+
+    def test_a_process_in_which_names_have_other_letters_judges_nothing(self):
+        settings = serving.Settings("", "", 1024, None, "white", False, False)
+        with unittest.mock.patch.object(sys, "getfilesystemencoding", lambda: "latin-1"), contextlib.closing(workers.Pool(settings, 1, None)) as pool:
+            with self.assertRaisesRegex(workers.Broken, "ended with status 1 before it began"):
+                list(pool.answers(iter([serving.Task(0, "one.ppm", str(self.put("one.ppm", p3(UNIQUE))), (), None, None, None, "", 1, serving.FULL)])))
+
+
 def task_of(number, name):
     return serving.Task(number, name, "", (), None, None, None, "", 1, serving.FULL)
 

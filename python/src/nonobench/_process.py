@@ -69,7 +69,8 @@ def folders() -> list[str]:
 class Child:
     """A process that answers, and the stream to it, which is its standard input. It is ended with this object.
 
-    It runs `serve` of a module with a bound of its memory. More folders with libraries are looked into last.
+    It runs `serve` of a module with a bound of its memory. More folders with libraries are looked into last. Its letters are those
+    of this program, also where an option or a variable chose them.
     """
 
     def __init__(self, module: str, memory: int, flags: Iterable[str] = (), folders: Iterable[str] = (), **more: Any) -> None:
@@ -78,7 +79,7 @@ class Child:
         self._come = bytearray()
         self._stream, theirs = socket.socketpair()
         self._stream.setblocking(False)
-        words = [sys.executable, "-I", *flags, "-c", _START, FOLDER, f"nonobench.{module}", str(memory), *folders]
+        words = [sys.executable, "-I", "-X", f"utf8={sys.flags.utf8_mode}", *flags, "-c", _START, FOLDER, f"nonobench.{module}", str(memory), *folders]
         env = {**os.environ, "NONOBENCH_LIBRARY": PATH}
         with theirs:
             self._process = subprocess.Popen(words, stdin=theirs.fileno(), stdout=subprocess.PIPE, env=env, **more)

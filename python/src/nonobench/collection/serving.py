@@ -13,6 +13,7 @@ import marshal
 import os
 import select
 import signal
+import sys
 import threading
 import time
 from collections import deque
@@ -48,6 +49,7 @@ class Settings(NamedTuple):
     is_inline: bool  # certificates go back, and are written where the run was begun
     is_untrusted: bool = False  # links are no files
     new: str = ""  # what a process calls a file until it is whole
+    coding: str = ""  # of the names of files, in the process that asks
 
 
 class Task(NamedTuple):
@@ -84,6 +86,8 @@ def serve(memory: int) -> None:
     settings = next(asked, None)
     if settings is None:  # the run was stopped before it said so much
         return
+    if Settings(*settings).coding != sys.getfilesystemencoding():  # a name would be that of another file
+        sys.exit(f"nonobench-audit: names of files are {sys.getfilesystemencoding()} in its process, and not {Settings(*settings).coding}")
     judging = Judging(Settings(*settings), answers)
     certificates.NEW = Settings(*settings).new
     answers.put(0, "ready", "")

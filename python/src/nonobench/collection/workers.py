@@ -6,6 +6,7 @@ import itertools
 import json
 import marshal
 import os
+import sys
 import time
 from collections import deque
 from typing import Callable, Iterator, NamedTuple, Optional
@@ -57,7 +58,7 @@ class Hand(Child):
         self.is_reading = False  # pieces of that file come, and then the puzzle is told when it is begun
         self.known: Optional[tuple[str, str]] = None  # the row of the puzzle whose certificate or grade is being made, and what goes with it
         self.new = new_name()
-        self.send(0, marshal.dumps(tuple(settings._replace(new=self.new))))
+        self.send(0, marshal.dumps(tuple(settings._replace(new=self.new, coding=sys.getfilesystemencoding()))))
 
     def status(self) -> int:
         """Ends the process, and answers its status. What it was writing goes."""
