@@ -469,7 +469,7 @@ def test_a_folder_of_certificates_that_comes_meanwhile_is_told(site, checked, tm
     assert status == [(0, []), (0, []), (3, [f"{tmp_path}/own/in/: {finding.CHANGED}"])]
 
 
-@pytest.mark.parametrize("names", (("a", "a.ppm", "a.ppm.ppm"), ("a", "a.ppm"), ("", ".cert")))
+@pytest.mark.parametrize("names", (("a", "a.ppm", "a.ppm.ppm"), ("a", "a.ppm"), (".cert", ".cert.ppm")))
 @pytest.mark.parametrize("apart", (False, True))
 def test_a_certificate_is_of_the_picture_with_its_name(site, checked, tmp_path, names, apart):
     # The last two pictures (of a chain of names) have one certificate, which is right for one of them alone.
@@ -479,9 +479,20 @@ def test_a_certificate_is_of_the_picture_with_its_name(site, checked, tmp_path, 
         pair(site, name, DIAGONAL, None)
     words = ["site", "--untrusted", *(["--certificates", "own"] if apart else [])]
     assert checked(*words) == (0, [])
-    pair(site, names[0 if names[0] == "" else -1], CROSS, None)
+    pair(site, names[-1], CROSS, None)
     status, lines = checked(*words)
     assert status == 1 and len(lines) == 1
+
+
+@pytest.mark.parametrize("name", ("", ".."))
+def test_a_name_with_nothing_before_its_ending_is_told(site, checked, name):
+    # For an audit such a file has no ending, and what lies beside it is called otherwise.
+    pair(site, "one")
+    pair(site, name, background="1,1,1")
+    status, lines = checked("site")
+    assert (status, sorted(lines)) == (3, [f"site/{name}.{ending}: nothing is before its ending" for ending in ("cert", "ppm")])
+    (site / f"{name}.cert").unlink()
+    assert checked("site", "--quiet") == (3, [f"site/{name}.ppm: nothing is before its ending"])
 
 
 @pytest.mark.parametrize("apart", (False, True))

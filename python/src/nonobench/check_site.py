@@ -93,12 +93,13 @@ class Site:
             try:
                 with finding.searched(place, depth) as entries:
                     for entry in entries:
+                        is_ours = entry.name.lower().endswith(ends)
                         if entry.is_dir(follow_symlinks=False):
                             waiting.append((entry.path, depth + 1))
-                        elif entry.name.lower().endswith(ends):
+                        elif is_ours and os.path.splitext(entry.name)[1]:
                             yield entry.path.removeprefix(os.path.join(outer, ""))
-                        elif outer != self._site and not os.path.exists(entry.path):
-                            self.unsearched.append(Answer(entry.path, UNREAD, "this is a link"))
+                        elif is_ours or outer != self._site and not os.path.exists(entry.path):
+                            self.unsearched.append(Answer(entry.path, UNREAD, "nothing is before its ending" if is_ours else "this is a link"))
             except OSError as error:
                 self.unsearched.append(Answer(os.path.join(place, ""), UNREAD, error.strerror))
 
@@ -134,8 +135,7 @@ class Checks:
     """Checks the certificates of a site, as many at a time as there are workers."""
 
     def __init__(self, told: argparse.Namespace) -> None:
-        self._jobs = told.jobs
-        self._allowed = told.allowed
+        self._jobs, self._allowed = told.jobs, told.allowed
         self._workers = [Worker(told.seconds, told.memory << 20, told.processor) for _ in range(told.jobs)]  # as many as threads
 
     def answers(self, pairs: Iterator[Pair]) -> Iterator[Answer]:
