@@ -1238,7 +1238,7 @@ class Running(Case):
             self.put(name, p3(UNIQUE))
         self.put("e.xml", "<puzzleset>" + webpbn(UNIQUE) * 2 + "</puzzleset>")
         os.mkdir(self.site / "d.background")
-        lost = "a folder among the puzzles has its name"
+        lost = "a folder or a puzzle beside it may have its name"
         for out, more in (("out", []), ("more", ["--jobs", "1"])):
             rows = self.rows("site", "--untrusted", "--certify", out, "--ppm", out, *more, status=3)
             note = f"its picture was not written: {lost}; its certificate was not written: {lost}"
@@ -1249,6 +1249,27 @@ class Running(Case):
                 "e.2.ppm.cert", "e.xml.2.givens/z.cert", "f.cert", "f.ppm.background/z.cert", "f.ppm.givens/z.cert",
             ])
             self.assertEqual(check_site.main([str(self.folder / out), "--quiet"]), 0)
+
+    def test_a_path_with_no_ending_of_puzzles_has_nothing_of_another_puzzle(self):
+        """What is called after NAME is of NAME.ppm, and SET.2.cert of SET.xml: for NAME and SET.2 it is neither read nor written."""
+        for name in ("a", "a.ppm", "a.ppm.txt", "set.2", "set.2.txt", "set.xml.2", "x", "x.ppm", "x.txt", "y.txt"):
+            self.put(name, p3(AMBIGUOUS if name[0] == "a" else UNIQUE))
+        self.put("set.xml", "<puzzleset>" + webpbn(UNIQUE) * 2 + "</puzzleset>")
+        for name in ("x", "set.2", "set.xml.2", "y"):
+            self.put(f"{name}.cert", "no certificate")
+        (self.folder / "own").mkdir()
+        for place in ("site/a.givens", "site/a.ppm.givens", "own/a.givens"):
+            (self.folder / place).write_text("given 1 1\n")
+        names = ["a", "a.ppm.txt", "set.2", "set.2.txt", "set.xml.2", "x", "x.txt", "y.txt"]
+        rows = {}
+        for paths in (names[:3] + names[4:6] + names[7:], names[3::3]):  # in one run no two are called alike
+            rows.update(self.rows(*(f"site/{name}" for name in paths), "--certify", "out"))
+        self.assertEqual([name for name in names if rows[f"site/{name}"]["verdict"] == "ambiguous"], ["a", "a.ppm.txt"])
+        self.assertEqual([name for name in names if "certificate" in rows[f"site/{name}"]], ["y.txt"])
+        self.assertEqual([name for name in names if "note" in rows[f"site/{name}"]], ["set.2", "set.xml.2", "x"])
+        self.assertEqual(sorted(os.listdir(self.folder / "out")), ["set.2.txt.cert", "x.txt.cert", "y.cert"])
+        self.assertEqual(self.rows("site/a", "--givens", "own", status=3)["site/a"].get("error"), "its givens: a.givens may be another puzzle's")
+        self.rows("site/a.ppm", "--givens", "own", status=0)
 
     def test_certificates_in_a_folder_that_is_not_there(self):
         self.put("one.ppm", p3(UNIQUE))

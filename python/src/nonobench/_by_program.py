@@ -64,7 +64,7 @@ def lying(path: str, ending: str, is_shared: bool = True) -> Optional[str]:
     # What is called after the whole name is that of the puzzle with this name and a suffix, where there is one.
     whole = stem if any(lies(name + suffix) for suffix in SUFFIXES) else name
     is_only = not any(lies(stem + suffix) for suffix in SUFFIXES - {own.lower()})
-    called = called_beside(whole, stem if is_shared or is_only else whole, f".{ending}")
+    called = called_beside((whole, stem if is_shared or is_only else whole), f".{ending}")
     return next((os.path.join(folder, one) for one in called if lies(one)), None)
 
 

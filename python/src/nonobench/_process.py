@@ -69,8 +69,7 @@ def folders() -> list[str]:
 class Child:
     """A process that answers, and the stream to it, which is its standard input. It is ended with this object.
 
-    It runs `serve` of a module with a bound of its memory. More folders with libraries are looked into last. Its letters are those
-    of this program, also where an option or a variable chose them.
+    It runs `serve` of a module with a bound of its memory. More folders with libraries are looked into last.
     """
 
     def __init__(self, module: str, memory: int, flags: Iterable[str] = (), folders: Iterable[str] = (), **more: Any) -> None:

@@ -104,7 +104,7 @@ def _is_there(path: str, data: bytes) -> bool:
 
 def _put(word: str, path: str, data: bytes) -> str:
     if NO_NAME in path:
-        return f"{unwritten(word)}: a folder among the puzzles has its name"
+        return f"{unwritten(word)}: a folder or a puzzle beside it may have its name"
     try:
         with opened(os.path.dirname(path)) as folder:
             _write(os.path.basename(path), data, folder)

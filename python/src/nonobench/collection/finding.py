@@ -11,7 +11,7 @@ import os
 import re
 from collections import Counter
 from pathlib import Path
-from typing import Any, Iterator, NamedTuple, Optional
+from typing import Any, Iterable, Iterator, NamedTuple, Optional
 
 ENDINGS = ("cert", "proof")  # of certificates: the second is an older one, and counts where a puzzle has none of the first
 SUFFIXES = frozenset((".ppm", ".pgm", ".pbm", ".pnm", ".png", ".gif", ".bmp", ".webp", ".non", ".xml"))
@@ -24,7 +24,7 @@ MADE = (".cert", ".ppm", ".givens", ".background")  # what an audit writes, belo
 CHANGED = "something in it came, went or was written while it was read"
 UNTOLD = "file of givens or background"
 DEEPEST = 100  # folders within each other below a PATH: what one costs grows with its depth
-NO_NAME = "\0"  # in what nothing is written to, since folders have its names
+NO_NAME = "\0"  # in what nothing is written to, since folders or other puzzles have its names
 Named = tuple[int, str, str]  # a certificate: the puzzle of the file that it is for, from 1; how its name ends; its path
 _NUMBER = re.compile(r"(.+)\.([1-9][0-9]{0,5})", re.DOTALL)
 _noted: dict[tuple[str, tuple[str, ...]], int] = {}  # digests of what lay in the operator's folders when each was first listed
@@ -324,13 +324,24 @@ def begin(*ways: Optional[str]) -> None:
 
 def _found(folder: Folder, name: str) -> Found:
     stem = os.path.splitext(name)[0]
-    called = stem if _is_own(folder, name) else name if name not in folder.taken else name + NO_NAME
-    beside = [*folder.unlisted, *_certificates(folder, name, stem)]
+    called = stem if _is_own(folder, name) else name if name not in folder.taken and name in _ways(folder, name) else name + NO_NAME
+    beside = [*folder.unlisted, *_certificates(folder, name)]
     (givens, why), (background, other) = (_told(folder, name, end) for end in TOLD)
     newer = {of for of, ending, _ in beside if ending == ENDINGS[0]}
     read = tuple((of, place) for of, ending, place in beside if ending == ENDINGS[0] or of not in newer)
     unread = tuple(place for of, ending, place in beside if ending != ENDINGS[0] and of in newer)
     return Found(folder.real + name, shown(folder.prefix + name), folder.front + called, read, givens, background, unread, why or other)
+
+
+def _ways(folder: Folder, name: str) -> list[str]:
+    """What goes with a file is called after its whole name, or its stem; if it has no ending of puzzles, not as what is another's."""
+
+    def is_others(way: str) -> bool:
+        number = _NUMBER.fullmatch(way)
+        return folder.stems[way] > 0 or _whole(folder, way) != "" or number is not None and number[1] in folder.sets
+
+    ways = dict.fromkeys((name, os.path.splitext(name)[0]))
+    return [way for way in ways if _is_puzzle(folder, name) or not is_others(way)]
 
 
 def _told(folder: Folder, name: str, end: str) -> tuple[Optional[str], str]:
@@ -340,21 +351,22 @@ def _told(folder: Folder, name: str, end: str) -> tuple[Optional[str], str]:
     """
     if folder.told is None:
         return (folder.told_in or ".") if end == TOLD[0] else None, ""
-    stem = os.path.splitext(name)[0]
-    ways = (name, name if _is_puzzle(folder, stem) else stem) if folder.is_apart else (stem if folder.stems[name] else name, stem)
-    called = next((one for one in called_beside(*ways, end) if one in folder.told), None)
+    stem, ours = os.path.splitext(name)[0], _ways(folder, name)
+    ways = [name, name if _is_puzzle(folder, stem) else stem] if folder.is_apart else [way for way in ours if way == stem or not folder.stems[name]]
+    called = next((one for one in called_beside(ways, end) if one in folder.told), None)
     if called is None:
         return None, ""
-    is_shared = folder.is_apart and os.path.splitext(called)[0] != name and not _is_alone(folder, name)
-    why = f"its {end[1:]}: {shown(called)} may be another puzzle's: call it {shown(name + end)}" if is_shared else ""
-    return folder.told_in + called, why
+    of = os.path.splitext(called)[0]
+    is_shared = folder.is_apart and (of not in ours or of != name and not _is_alone(folder, name))
+    advice = f": call it {shown(name + end)}" if of != name else ""
+    return folder.told_in + called, f"its {end[1:]}: {shown(called)} may be another puzzle's{advice}" if is_shared else ""
 
 
-def _certificates(folder: Folder, name: str, stem: str) -> list[Named]:
+def _certificates(folder: Folder, name: str) -> list[Named]:
     """The certificates of each puzzle of a file: after its whole name, else after the stem; beside puzzles both, if it is alone."""
     found: list[Named] = []
     is_both = not folder.is_held_apart and _is_alone(folder, name)
-    for way in (name, stem):
+    for way in _ways(folder, name):
         have = {one[:2] for one in found if not is_both}
         held = [one for key in ((way, way + "/") if name.lower().endswith(".xml") else (way,)) for one in sorted(folder.held.get(key, ()))]
         found += [one for one in held if one[:2] not in have and not _is_others(folder, name, os.path.splitext(os.path.basename(one[2]))[0])]
@@ -383,7 +395,7 @@ def _is_alone(folder: Folder, name: str) -> bool:
 def _is_own(folder: Folder, name: str) -> bool:
     """Whether a puzzle's certificate may be called after its stem: no other puzzle's could be called so, and no folder is."""
     stem, suffix = os.path.splitext(name)
-    if not _is_alone(folder, name) or stem in folder.taken or _whole(folder, stem):
+    if not _is_alone(folder, name) or stem in folder.taken or _whole(folder, stem) or stem not in _ways(folder, name):
         return False
     return suffix.lower() != ".xml" or stem not in folder.numbers
 
@@ -400,6 +412,6 @@ def _is_puzzle(folder: Folder, name: str) -> bool:
     return name in folder.names and os.path.splitext(name)[1].lower() in SUFFIXES
 
 
-def called_beside(name: str, stem: str, end: str) -> list[str]:
+def called_beside(ways: Iterable[str], end: str) -> list[str]:
     """What a file that goes with a puzzle may be called, its ending in small or capital letters: NAME.png.cert, then NAME.cert."""
-    return [front + ending for front in dict.fromkeys((name, stem)) for ending in (end, end.upper())]
+    return [front + ending for front in dict.fromkeys(ways) for ending in (end, end.upper())]

@@ -163,8 +163,7 @@ class Judging:
     """Judges files with one desk."""
 
     def __init__(self, settings: Settings, answers: Answers) -> None:
-        self._settings = settings
-        self._answers = answers
+        self._settings, self._answers = settings, answers
         self._ground = readers.ground_of(settings.ground)
         self._desk = Desk()
         self._row: Row = {}  # what is known of the puzzle at hand: nothing before there is a verdict

@@ -72,9 +72,7 @@ class Pool:
     """Some processes, and what they answer."""
 
     def __init__(self, settings: Settings, jobs: int, seconds: Optional[float]) -> None:
-        self._settings = settings
-        self._jobs = jobs
-        self._seconds = seconds
+        self._settings, self._jobs, self._seconds = settings, jobs, seconds
         self._hands: list[Hand] = []
         self._hung: list[Hand] = []  # those that could not be ended
         self._again: list[Task] = []
