@@ -200,7 +200,7 @@ def plain(application):
     return lambda environ, start: application({
         name: value for name, value in environ.items()
         if not name.startswith(("CONTENT_", "HTTP_")) or name in HEADERS and PLAIN.fullmatch(value)
-    }, start)
+    } | {"PATH_INFO": environ.get("PATH_INFO") or "/"}, start)  # for an empty path, Werkzeug redirects to the host that the client names
 
 
 def option(header, wanted):

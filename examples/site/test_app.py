@@ -385,7 +385,7 @@ class Site(Case):
 
     def test_no_address_leads_to_another_host(self):
         self.bring(DIAGONAL, DIAGONAL_CERT)
-        for path, status in (("//", 200), ("/puzzles//1", 404), ("//puzzles//new", 404), ("/new/", 404)):
+        for path, status in (("", 200), ("//", 200), ("/puzzles//1", 404), ("//puzzles//new", 404), ("/new/", 404)):
             answer = self.client.get(environ_overrides={"PATH_INFO": path, "HTTP_HOST": "evil.example"})
             self.assertEqual((answer.status_code, answer.headers.get("Location")), (status, None), path)
 
