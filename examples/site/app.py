@@ -7,6 +7,7 @@ a process that is ended where it takes too long, and what is shown is escaped.
 """
 
 import hashlib
+import ipaddress
 import json
 import logging
 import os
@@ -26,6 +27,7 @@ from werkzeug.exceptions import HTTPException
 MOST_TITLE = 100
 MOST_SHOWN = 200
 MOST_OPEN = 500  # connections
+MOST_WAITING = 400  # of them that wait for an answer, so that others come in
 MOST_FILES = 4096  # descriptors: waitress takes up to three for each connection
 MOST_PICTURE = 1 << 18  # bytes
 MOST_GIVEN = 1000  # cells
@@ -48,7 +50,7 @@ JOINERS = "\u200c\u200d"
 # Letters and signs that show nothing: fillers of Hangul, empty cells of Braille and hieroglyphs, place holders, a note without a head.
 BLANK = dict.fromkeys(map(ord, "\u115f\u1160\u2800\u3164\uffa0\ufffc\U00013441\U00013442\U0001d159"), " ")
 
-# `shown` is the sum of the picture as it is shown: what makes two puzzles one, whatever cells are given.
+# `shown` is the sum of the picture's size and of its cells as they are shown: what makes two puzzles one, whatever cells are given.
 TABLE = """
 CREATE TABLE IF NOT EXISTS published (
     id INTEGER PRIMARY KEY, title TEXT NOT NULL, picture BLOB NOT NULL, certificate BLOB NOT NULL,
@@ -152,10 +154,6 @@ class Picture:
         self.palette = {triple: nonobench.colour_shown(triple, maxval) for triple in dict.fromkeys([(maxval,) * 3, *exact])}
         self.cells = [self.palette[triple] for triple in exact]
 
-    def sum(self):
-        """A sum of the size and of all that is shown."""
-        return hashlib.sha256(json.dumps([self.columns, self.cells]).encode()).hexdigest()
-
 
 def puzzle_of(picture, clues, givens):
     """What is published: clues, the colours of their letters, the givens with their colours."""
@@ -239,16 +237,11 @@ def ink_of(triple):
     return f"background: rgb({red}, {green}, {blue}); color: {figure}"
 
 
-def given_of(triple):
-    """How a given cell looks. Each has a frame and a mark, whatever its colour: a cross where it stays empty."""
-    mark = "\N{MULTIPLICATION SIGN}" if triple == WHITE else "\N{BLACK CIRCLE}"
-    return f'<td class="given" style="{ink_of(triple)}">{mark}</td>'
-
-
 def table_of(puzzle):
     """The table of a puzzle, with nothing that a stranger wrote. A template takes long for thousands of cells."""
     inks = {letter: ink_of(triple) for letter, triple in puzzle["colours"].items()}
-    looks = {triple: given_of(triple) for triple in {tuple(triple) for _, _, triple in puzzle["givens"]}}
+    # Each given cell has a frame and a mark, whatever its colour: a cross where it stays empty.
+    looks = {triple: f'<td class="given" style="{ink_of(triple)}">{"×" if triple == WHITE else "●"}</td>' for triple in {tuple(triple) for _, _, triple in puzzle["givens"]}}
     cells = [["<td></td>"] * len(puzzle["columns"]) for _ in puzzle["rows"]]
     for row, column, triple in puzzle["givens"]:
         cells[row - 1][column - 1] = looks[tuple(triple)]
@@ -299,7 +292,7 @@ class Site:
     def store(self, title, file, certificate):
         """Stores a puzzle that is proved, and answers its number."""
         picture, puzzle = self.proved(file, certificate)
-        shown = picture.sum()
+        shown = hashlib.sha256(json.dumps([picture.columns, picture.cells]).encode()).hexdigest()
         with self.database() as database:
             if not database.execute(PUBLISH, (title, file, certificate, puzzle, shown)).rowcount:
                 raise Refused("This puzzle is already here, with as few given cells.", 409)
@@ -366,9 +359,7 @@ def add_pages(app, site):
     def puzzle(number):
         wanted = int(number) if re.fullmatch("[1-9][0-9]{0,17}", number) else 0  # fewer digits than the database's numbers have
         found = site.database().execute("SELECT title, puzzle FROM published WHERE id = ?", (wanted,)).fetchone()
-        if found is None:
-            abort(404)
-        title, puzzle = found
+        title, puzzle = found or abort(404)
         if wants_json():
             return Response(f'{{"number": {number}, "title": {json.dumps(title)}, {puzzle[1:]}', mimetype="application/json")
         puzzle = json.loads(puzzle)
@@ -389,10 +380,17 @@ def create_app(**config):
     return app
 
 
+def home(channel):
+    """The address of a connection, but of IPv6 the network, since whoever is there has all of its addresses."""
+    return ipaddress.ip_address(channel.addr[0]).exploded[:19]
+
+
 def to_close(channels):
-    """Which connection makes room: of the address that has the most, the longest silent one; one that waits for its answer comes last."""
-    counts = Counter(channel.addr[0] for channel in channels)
-    return min(channels, key=lambda channel: (-counts[channel.addr[0]], bool(channel.requests), channel.last_activity))
+    """Which one makes room: of the address that has the most, the longest silent. Of those that wait for answers, if they are many; else they come last."""
+    waiting = [channel for channel in channels if channel.requests]
+    channels = waiting if len(waiting) > MOST_WAITING else channels
+    counts = Counter(map(home, channels))
+    return min(channels, key=lambda channel: (-counts[home(channel)], bool(channel.requests), channel.last_activity))
 
 
 class Turns:
@@ -406,7 +404,7 @@ class Turns:
 
     def append(self, channel):
         """Puts a connection behind those of its address."""
-        self.waiting.setdefault(channel.addr[0], deque()).append(channel)
+        self.waiting.setdefault(home(channel), deque()).append(channel)
 
     def popleft(self):
         """Takes the first connection of the address whose turn it is."""
@@ -460,9 +458,9 @@ def bound_connections():
 
         def __init__(self, *place, **named):
             super().__init__(*place, **named)
-            channels = [channel for channel in list(self._map.values()) if isinstance(channel, HTTPChannel) and not channel.will_close]
-            if len(channels) > MOST_OPEN:
-                to_close(channels).will_close = True
+            others = [other for other in list(self._map.values()) if isinstance(other, HTTPChannel) and other is not self and not other.will_close]
+            if len(others) >= MOST_OPEN:
+                to_close(others).will_close = True
 
     BaseWSGIServer.channel_class = Channel
     most = resource.getrlimit(resource.RLIMIT_NOFILE)[1]

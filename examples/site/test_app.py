@@ -342,6 +342,24 @@ class Site(Case):
         self.client.get("/", headers={"Host": "a.example:5000", "Accept": "text/html", "X-More": "b"})
         self.assertLessEqual(set(seen), {"Host", "Accept", "Content-Length"})
 
+    def test_which_connection_makes_room(self):
+        """Of each: its address, whether it waits for an answer, and when it was active last."""
+        def closed(*channels):
+            made = [unittest.mock.Mock(addr=(address, 1), requests=[1] * waits, last_activity=at) for address, waits, at in channels]
+            return made.index(site.to_close(made))
+
+        self.assertEqual(closed(("1.1.1.1", 0, 1), ("1.1.1.2", 0, 3), ("1.1.1.2", 1, 1), ("1.1.1.2", 0, 2)), 3)
+        self.assertEqual(closed(("1.1.1.1", 0, 1), ("1.1.1.2", 0, 2), ("2001:db8::1", 0, 3), ("2001:db8:0:0:1::", 0, 4)), 2)
+        crowd = [(f"1.1.{at >> 8}.{at & 255}", 1, at) for at in range(site.MOST_WAITING)]
+        self.assertEqual(closed(("1.1.2.1", 0, 9), *crowd), 0)
+        self.assertEqual(closed(("1.1.2.1", 0, 9), *crowd, ("2001:db8::1", 1, 500), ("2001:db8::2", 1, 499)), 402)
+
+    def test_the_addresses_of_a_network_have_one_turn(self):
+        turns = site.Turns()
+        for address in ("2001:db8::1", "2001:db8::2", "2001:db8:0:0:ffff::3", "1.1.1.1", "1.1.1.2"):
+            turns.append(unittest.mock.Mock(addr=(address, 1)))
+        self.assertEqual([turns.popleft().addr[0][-1] for _ in range(len(turns))], ["1", "1", "2", "2", "3"])
+
     def test_the_largest_page_is_made_fast(self):
         """A page with as many blocks as there can be takes not much longer than what it is made of takes to be read."""
         colours = ["0 0 0", "255 0 0", "0 0 255", "0 140 0", "120 60 0", "128 0 128", "0 128 128"]

@@ -116,13 +116,18 @@ class Serving(unittest.TestCase):
     """The site, served by the command of its README."""
 
     def setUp(self):
+        self.serve(str(HERE / "app.py"))
+
+    def serve(self, *words):
+        """Starts the site, by words for Python, and waits until it answers."""
         folder = tempfile.TemporaryDirectory()
         self.addCleanup(folder.cleanup)
         with socket.socket() as free:
             free.bind(("127.0.0.1", 0))
             self.port = free.getsockname()[1]
         env = {**os.environ, "SITE_LISTEN": f"127.0.0.1:{self.port}", "SITE_DATABASE": os.path.join(folder.name, "puzzles")}
-        words = ["sh", "-c", 'ulimit -S -n 1024; exec "$0" "$1"', sys.executable, str(HERE / "app.py")]  # the usual bound of open files
+        env["PYTHONPATH"] = f"{HERE}{os.pathsep}{env.get('PYTHONPATH', '')}"
+        words = ["sh", "-c", 'ulimit -S -n 1024; exec "$0" "$@"', sys.executable, *words]  # the usual bound of open files
         self.server = subprocess.Popen(words, env=env, stdout=subprocess.DEVNULL)
         self.addCleanup(self.server.wait)
         self.addCleanup(self.server.kill)
@@ -222,6 +227,20 @@ class Serving(unittest.TestCase):
         answers = self.bring_all([form(*pair) for pair in made])
         self.assertEqual(Counter(status for status, _ in answers), {303: 200})
         self.assertLess(max(seconds for _, seconds in answers), SECONDS + waited(self.server.pid) - idle)
+
+    def test_uploads_that_wait_shut_nobody_out_of_the_pages(self):
+        """30 uploads of as many addresses, to a site for 20 connections whose checks take a minute."""
+        self.server.kill()
+        self.serve("-c", "import app, time; app.MOST_OPEN, app.MOST_WAITING = 20, 15; app.Site.store = lambda *_: time.sleep(60); app.main()")
+        body = form(b"x", b"x")
+        head = f"POST /puzzles HTTP/1.1\r\nHost: x\r\nContent-Type: multipart/form-data; boundary={EDGE}\r\nContent-Length: {len(body)}\r\n\r\n"
+        with contextlib.ExitStack() as opened:
+            for at in range(1, 31):
+                client = opened.enter_context(socket.create_connection(("127.0.0.1", self.port), STARTING, (f"127.0.1.{at}", 0)))
+                with contextlib.suppress(OSError):  # it is closed already
+                    client.sendall(head.encode() + body)
+            time.sleep(0.5)
+            self.assertEqual([self.listed() for _ in range(4)], [0] * 4)
 
     @takes_long
     def test_who_uploads_much_shuts_nobody_out_of_the_workers(self):
