@@ -1,8 +1,8 @@
 /* Says whether a picture is fit to be published, by its certificate and with the cells that are published: example PICTURE CERTIFICATE
- * [ROW,COLUMN ..]. Exits with status 0 if it is fit, 1 if it is not or is refused, 2 for bad arguments, and 3 if a file cannot be read. */
+ * [ROW,COLUMN ..]. Exits with status 0 if it is fit, 1 if it is not or is refused, 2 for bad arguments, and 3 if a file cannot be read or the
+ * answer not be written. */
 #include "nonobench.h"
 #include <errno.h>
-#include <inttypes.h>
 #include <stdio.h>
 #include <stdlib.h>
 #include <string.h>
@@ -32,11 +32,22 @@ static file read_file(const char *name) {
     return whole;
 }
 
+/* Reads a number of at most five digits, and moves behind it; 0 if there is none. */
+static uint32_t read_number(const char **word) {
+    size_t digits = strspn(*word, "0123456789");
+    uint32_t number = digits <= 5 ? (uint32_t)strtoul(*word, NULL, 10) : 0;
+    *word += digits;
+    return digits ? number : 0;
+}
+
 /* Reads cells from arguments; false if one is not a cell. */
 static bool read_places(char **words, size_t count, nonobench_place *places) {
-    char end;
     for (size_t at = 0; at < count; at++) {
-        if (sscanf(words[at], "%" SCNu32 ",%" SCNu32 "%c", &places[at].row, &places[at].column, &end) != 2) return false;
+        const char *word = words[at];
+        places[at].row = read_number(&word);
+        if (*word++ != ',') return false;
+        places[at].column = read_number(&word);
+        if (*word || !places[at].row || !places[at].column) return false;
     }
     return true;
 }
@@ -58,5 +69,6 @@ int main(int count, char **names) {
     printf(status == NONOBENCH_DONE ? "%s" : "refused: %s\n", said);
     free(picture.bytes);
     free(certificate.bytes);
+    if (fclose(stdout)) leave("standard output", strerror(errno));
     return status == NONOBENCH_DONE && found.is_fit ? 0 : 1;
 }

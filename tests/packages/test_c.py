@@ -2,6 +2,7 @@
 
 import os
 import re
+import subprocess
 
 import pytest
 from tried import CASES, EXAMPLES, ROOT, ended, needs, needs_file, passes
@@ -123,7 +124,7 @@ CALLS = {
     'none.ppm diagonal.cert': (3, 'example: none.ppm: No such file or directory'),
     'diagonal.ppm none.cert': (3, 'example: none.cert: No such file or directory'),
     'hostile.so diagonal.cert': (3, 'example: hostile.so: Is a directory'),
-    **{f'given.ppm given.cert {place}': (2, USAGE) for place in ('1', '1,', '1,1x', 'x,1', '1,-')},
+    **{f'given.ppm given.cert {place}': (2, USAGE) for place in ('1', '1,', '1,1x', 'x,1', '1,-', '4294967297,1', '-4294967295,1', '+1,1', '0,1')},
     'given.ppm': (2, USAGE),
 }
 
@@ -143,3 +144,6 @@ def test_example(archive, tmp_path):
         run = ended([example, *words.split()], cwd=here)
         said = re.sub(r'\n$', '', (run.wrote + run.said).decode())
         assert (run.status, said) == (status, line), words
+    with open('/dev/full', 'wb') as full:
+        words = [example, 'diagonal.ppm', 'diagonal.cert']
+        assert subprocess.run(words, cwd=here, stdout=full, stderr=subprocess.PIPE, check=False).returncode == 3
