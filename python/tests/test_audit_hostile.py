@@ -430,7 +430,9 @@ class Strangers(Case):
         self.assertEqual([rows[name]["givens"] for name in ("one.ppm", "one.ppm.ppm")], [[[1, 1]], [[2, 2]]])
 
     def test_each_file_of_the_operators_is_of_one_puzzle(self):
-        """Of that with its whole name, else of the only one with its stem; and where two have that it is an error of both."""
+        """One with an ending of puzzles of that with this whole name alone, else of the only one with its stem; where two have that it is
+        an error of both.
+        """
         mine, names = self.folder / "mine", ("a.ppm", "a.ppm.ppm", "a.ppm.xml", "b.gif", "b.png", "c.2.png", "c.xml", "d.ppm.ppm", "e.ppm", "e.xml")
         mine.mkdir()
         for name in names:
@@ -438,7 +440,7 @@ class Strangers(Case):
         for called in ("a.ppm", "b", "b.png", "c.2", "d.ppm", "e"):
             for end in finding.TOLD:
                 (mine / f"{called}{end}").write_text("")
-        own = {"a.ppm": "a.ppm", "b.gif": "b", "b.png": "b.png", "c.2.png": "c.2", "d.ppm.ppm": "d.ppm", "e.ppm": "e", "e.xml": "e"}
+        own = {"a.ppm": "a.ppm", "b.gif": "b", "b.png": "b.png", "c.2.png": "c.2", "e.ppm": "e", "e.xml": "e"}
         for untrusted in (False, True):
             found = {os.path.basename(one.path): one for one in finding.find([str(self.site)], finding.Places(None, str(mine), untrusted))}
             for name in names:

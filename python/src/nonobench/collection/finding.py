@@ -345,14 +345,14 @@ def _ways(folder: Folder, name: str) -> list[str]:
 
 
 def _told(folder: Folder, name: str, end: str) -> tuple[Optional[str], str]:
-    """The givens of a puzzle, or its background; and why it is not known whether they are. In a folder of their own those after a whole
-    name are of the puzzle with it, as certificates are, and those after a stem of the only one with it; beside puzzles those after both
+    """The givens of a puzzle, or its background; and why it is not known whether they are. In a folder of their own a name with an ending
+    of puzzles is a whole one, whatever is there, and those after a stem are of the only puzzle with it; beside puzzles those after both
     are of all with the stem.
     """
     if folder.told is None:
         return (folder.told_in or ".") if end == TOLD[0] else None, ""
     stem, ours = os.path.splitext(name)[0], _ways(folder, name)
-    ways = [name, name if _is_puzzle(folder, stem) else stem] if folder.is_apart else [way for way in ours if way == stem or not folder.stems[name]]
+    ways = [name, name if os.path.splitext(stem)[1].lower() in SUFFIXES else stem] if folder.is_apart else [way for way in ours if way == stem or not folder.stems[name]]
     called = next((one for one in called_beside(ways, end) if one in folder.told), None)
     if called is None:
         return None, ""
