@@ -117,6 +117,32 @@ def test_what_was_interrupted_is_removed_too(archive, tmp_path):
     assert files(prefix) == ['share/doc']
 
 
+@pytest.mark.parametrize('is_update', [False, True])
+def test_what_cannot_be_removed_is_told_and_stays_in_the_list(archive, is_update, tmp_path):
+    prefix, words = tmp_path / 'prefix', ['--prefix', tmp_path / 'prefix'] + ['--uninstall'] * (not is_update)
+    write(archive / 'bin/old', 'x')
+    assert run(archive / 'install', '--prefix', prefix)[0] == 0
+    (archive / 'bin/old').unlink()
+    (prefix / 'bin/old').unlink()
+    write(prefix / 'bin/old/in the way', 'x')
+    status, out, err = run(archive / 'install', *words)
+    assert (status, err.splitlines()[-1]) == (1, f'install: not all could be removed from {prefix}')
+    assert 'bin/old' in (prefix / OURS[0]).read_text().splitlines() and 'removed nonobench' not in out
+    assert (prefix / 'bin/nonobench').exists() == is_update
+    shutil.rmtree(prefix / 'bin/old')
+    assert run(prefix / OURS[1], '--uninstall')[0] == 0
+    assert not (prefix / 'bin').exists() and files(prefix) == []
+
+
+def test_halves_go_too_and_what_is_not_ours_stays(archive, tmp_path):
+    prefix, mine = tmp_path / 'prefix', 'lib/nonobench/mine/__pycache__/keep.txt'
+    assert run(archive / 'install', '--prefix', prefix)[0] == 0
+    write(prefix / 'bin/nonobench.new', 'half')
+    write(prefix / mine, 'x')
+    assert run(archive / 'install', '--prefix', prefix, '--uninstall')[0] == 0
+    assert files(prefix) == [mine]
+
+
 def test_below_the_home_and_from_where_we_stand(archive, tmp_path):
     assert run(archive / 'install', home=tmp_path / 'home')[0] == 0
     assert (tmp_path / 'home/.local/bin/nonobench').exists()
