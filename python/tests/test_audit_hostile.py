@@ -747,7 +747,7 @@ class Strangers(Case):
         (sub / "rows").unlink()
         for at, name in enumerate("dcba"):  # a row is put before others, or what a pipe had is
             self.put(f"{name}.ppm", p3(UNIQUE))
-            place = ((outputs.Lines, "_put_in_order"), (outputs.Lines, "again"))[at % 2]
+            place = ((outputs.Lines, "_put_in_order"), (outputs.Lines, "keep"))[at % 2]
             with self.subTest(name):
                 self.assertEqual(run("--jsonl", *(["--resume"] if at else []), at=place, swaps=at < 3), 0)
 
@@ -1558,7 +1558,7 @@ class Processes(Case):
             "serve(int(sys.argv[3]))\n"
         )
         words = ["site", "--jobs", "1", "--seconds", str(PATIENCE), "--jsonl", "rows", "--certify", "certs"]
-        done = self.by_script(['shift 2', 'set -- -I -c "$(cat dies)" "$@"'], *words)
+        done = self.by_script(['shift 4', 'set -- -I -c "$(cat dies)" "$@"'], *words)
         self.assertEqual(done.returncode, 0, done.stderr)
         row = self.read("rows")["site/hard.ppm"]
         self.assertEqual((row["verdict"], row["note"]), ("unique", "its grade: its process ended by signal 9"))
@@ -1568,7 +1568,7 @@ class Processes(Case):
         """A run whose processes do so before they serve."""
         (self.folder / "begins").write_text("import sys\nexec(sys.argv.pop(1).rpartition('\\n')[0])\n" + lines + "serve(int(sys.argv[3]))\n")
         words = ["site", "--seconds", str(PATIENCE), "--jsonl", "rows", *words]
-        return self.by_script(['shift 2', 'set -- -I -c "$(cat begins)" "$@"'], *words)
+        return self.by_script(['shift 4', 'set -- -I -c "$(cat begins)" "$@"'], *words)
 
     def test_files_that_end_each_process_at_once(self):
         """The files before them have their rows, though their answers had not gone out by then."""

@@ -83,6 +83,7 @@ class Site:
         called = (name.rpartition(".")[0] for name in found)
         bare = pictures.difference(f"{name}.ppm" if f"{name}.ppm" in pictures else name for name in called)  # as picture_of has it
         self.bare += [Answer(os.path.join(self._site, name), REFUSED, "no certificate") for name in self._share(bare)]
+        self._is_told = self._givens is not None and any(self._picture(name).is_told() for name in bare)
         return self._share(found - older)
 
     def _below(self, outer: str) -> Iterator[str]:
@@ -110,12 +111,15 @@ class Site:
     def pairs(self, names: list[str]) -> Iterator[Pair]:
         """Certificates with their pictures, by the one rule of names."""
         for name in names:
-            front = os.path.join(os.path.dirname(name), "")
-            folder = finding.pictures_in(self._folder, front, self._places)
             file, certificate = (os.path.join(way, name) for way in (self._certificates, self._places.certificates or ""))
-            found = finding.picture_of(folder, os.path.basename(name).rpartition(".")[0])
+            found = self._picture(name)
             self._is_told = self._is_told or found.is_told()
             yield file, certificate, found
+
+    def _picture(self, name: str) -> finding.Found:
+        """The picture called so but for the ending, with what goes with it."""
+        folder = finding.pictures_in(self._folder, os.path.join(os.path.dirname(name), ""), self._places)
+        return finding.picture_of(folder, os.path.basename(name).rpartition(".")[0])
 
     def late(self) -> Iterator[Answer]:
         """What is known once all pairs are answered."""
