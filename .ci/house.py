@@ -251,7 +251,7 @@ COUNTS = (
     # site bounds connections, and headers are read in bounded memory. Modules are made those of other systems, too. The page aims for
     # a grade, and a script measures how often that is reached. Outputs and names of an audit withstand more; its rows wait in little
     # memory, and the page lists its library at once.
-    ('lines of JavaScript and Python without tests', lambda: tracked('*.js', '*.mjs', '*.py'), 30785),
+    ('lines of JavaScript and Python without tests', lambda: tracked('*.js', '*.mjs', '*.py'), 30800),
     # platforms/build makes library and program for other systems, and release their packages.
     ('lines of bash', bash_lines, 1310),
 )

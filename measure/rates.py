@@ -46,6 +46,11 @@ def pairs_of(count):
     return pairs, others
 
 
+def write(pairs, file):
+    """Puts pairs into a file, as the programs for C and JavaScript read them."""
+    file.write_bytes(b"".join(struct.pack("<II", *map(len, pair)) + b"".join(pair) for pair in pairs))
+
+
 def rate(pairs, ask):
     """How many a second are asked, in the best round."""
     best = 0.0
@@ -96,8 +101,7 @@ def main():
     print(f"{'':12}{'checks':>10}{'verdicts':>10}{'with certificates':>19}")
     with tempfile.TemporaryDirectory() as name:
         folder = Path(name)
-        # as the programs for C and JavaScript read them
-        (folder / "pairs").write_bytes(b"".join(struct.pack("<II", *map(len, pair)) + b"".join(pair) for pair in pairs))
+        write(pairs, folder / "pairs")
         for name, rates in (("C", of_c(folder)), ("Python", of_python(pairs)), ("JavaScript", of_javascript(folder))):
             if rates is None:
                 print(f"{name:12} left out, since a tool or the module is missing")

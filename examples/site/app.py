@@ -17,6 +17,7 @@ import resource
 import sqlite3
 import unicodedata
 from collections import Counter, deque
+from functools import lru_cache
 
 import nonobench
 from flask import Flask, Response, abort, g, jsonify, redirect, render_template, request, url_for
@@ -380,9 +381,14 @@ def create_app(**config):
     return app
 
 
+@lru_cache(MOST_FILES)
+def network(address):
+    """An address, but of IPv6 its network, since whoever is there has all of its addresses."""
+    return ipaddress.ip_address(address).exploded[:19]
+
+
 def home(channel):
-    """The address of a connection, but of IPv6 the network, since whoever is there has all of its addresses."""
-    return ipaddress.ip_address(channel.addr[0]).exploded[:19]
+    return network(channel.addr[0])
 
 
 def to_close(channels):

@@ -652,7 +652,7 @@ class Running(Case):
         run = running.Run(arguments.Options(["site"], certify="certs", is_quiet=True))
         run._kept[0] = running.Kept((), to)
         text = '{"file":"one.ppm","verdict":"unique","lines":9,"note":"its grade: no answer within 9 seconds"}'
-        run._deliver_answer(workers.Answer(0, True, "unique", text, certificates.packed(CERT)))
+        run._text_of(workers.Answer(0, True, "unique", text, certificates.packed(CERT)))
         self.assertEqual(Path(f"{to}.cert").read_text(), CERT)
 
     def test_pictures_are_written(self):

@@ -278,7 +278,7 @@ def _behind_table(at: int, flags: int) -> int:
 
 def _blocks(data: bytes, at: int) -> tuple[int, list[bytes]]:
     """Where the blocks of a GIF end that begin at a place, and what is in them: an empty one where there is none."""
-    blocks = []
+    blocks: list[bytes] = []
     while data[at]:
         _need(len(blocks) < MOST_PARTS)
         blocks.append(data[at + 1 : at + 1 + data[at]])
@@ -314,7 +314,8 @@ def _bmp(data: bytes) -> Pixels:
 def _webp(data: bytes) -> Pixels:
     end = 8 + struct.unpack_from("<I", data, 4)[0]
     _need(end <= len(data))
-    at, chunks = 12, []
+    at = 12
+    chunks: list[tuple[bytes, bytes]] = []
     while at < end:
         name, size = struct.unpack_from("<4sI", data, at)
         _need(at + 8 + size <= end and len(chunks) < MOST_PARTS)
