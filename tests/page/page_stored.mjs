@@ -190,7 +190,7 @@ export async function closedDatabase({ page, trial }) {
     assert.equal(await page.run(async () => (await keep.keeper.cards()).length), 1);
 }
 
-/** However many pictures there are, one transaction of the database lists them. */
+/** However many pictures there are, one transaction of the database lists them; what is kept meanwhile has its own. */
 export async function listedAtOnce({ page, trial }) {
     await clean(page);
     await page.click('#new-go');
@@ -205,7 +205,7 @@ export async function listedAtOnce({ page, trial }) {
         await keeper.shelf.drop('card:more7');
         const { transaction } = IDBDatabase.prototype;
         let count = 0;
-        IDBDatabase.prototype.transaction = function (...words) { count++; return transaction.apply(this, words); };
+        IDBDatabase.prototype.transaction = function (...words) { count += words[1] === 'readonly'; return transaction.apply(this, words); };
         const cards = await keeper.cards();
         IDBDatabase.prototype.transaction = transaction;
         return [cards.length, count];
