@@ -1,6 +1,6 @@
 /* Says whether a picture is fit to be published, by its certificate and with the cells that are published: example PICTURE CERTIFICATE
- * [ROW,COLUMN ..]. Exits with status 0 if it is fit, 1 if it is not or is refused, 2 for bad arguments, and 3 if a file cannot be read or the
- * answer not be written. */
+ * [ROW,COLUMN ..]. Exits with status 0 if it is fit, 1 if it is not or is refused, 2 for bad arguments, and 3 if a file cannot
+ * be read or the answer not be written. */
 #include "nonobench.h"
 #include <errno.h>
 #include <stdio.h>

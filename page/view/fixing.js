@@ -225,15 +225,14 @@ function aimedText(done) {
 function foundText(done) {
   if (isGrade(fixing.goal)) return aimedText(done);
   const [best] = wholes();
-  const ended = verdictView.ended || !done?.isThrough;
-  const mixed = mixtures().length;
+  const [ended, mixed] = [verdictView.ended || !done?.isThrough, mixtures().length];
   if (!best) {
     const none = phrase('view.noRepaintFound', { ended: ended ? phrase('view.time') : phrase('view.noneUpCellsExists', { cells: done.proved }) });
     const near = mixed ? phrase('view.whatListedGivesCells') : fixing.near ? phrase('view.whatListedComesNearer') : '';
     return `${none}${near} ${ended ? `${LONGER} ` : ''}${LOOSE}`;
   }
   if (best.goal !== fixing.goal && best.open > 0) return phrase('view.onlyOneSolution');
-  const least = done && done.proved >= best.cells.length - 1 ? phrase('view.noneSmaller') : '';
+  const least = done?.proved >= best.cells.length - 1 ? phrase('view.noneSmaller') : '';
   const loose = best.cells.length > FEW ? phrase('view.moreCellsPictureToo', { few: FEW }) : '';
   return phrase('view.proposalsFoundChooseOne', { proposals: groups().reduce((sum, { items }) => sum + items.length, 0), least, loose, see: howToSee() });
 }
