@@ -28,7 +28,7 @@ extern "C" {
 #endif
 
 /* The version of this header. nonobench_version gives the version of the library. */
-#define NONOBENCH_VERSION "0.7.7"
+#define NONOBENCH_VERSION "0.7.8"
 
 /* How many bytes a picture, a certificate or a file of givens may have, as for the program. The library itself accepts any length. */
 #define NONOBENCH_MOST_BYTES ((size_t)16777216)

@@ -1,4 +1,4 @@
-//! The eight ways in which a picture can lie: proofs are sought in one of them, so that they are as long for each.
+//! The eight ways in which a picture can lie: proofs are sought in one of them, so that they have as many lines for each.
 
 use cert_text::{CellNumber, CertLine, LineNumber, Literal};
 use picture::{Axis, CellSet, LineId, MAX_COLOURS, MAX_SIDE, Picture};

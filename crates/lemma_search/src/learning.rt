@@ -9,12 +9,12 @@ use picture::MAX_COLOURS;
 use std::alloc::AllocError;
 
 impl<'a> Search<'a> {
-    /// Learns a lemma from a conflict, goes back to the level at which it holds a cell, and holds that. False if no decision led to
-    /// the conflict, so that there is no level to go back to.
-    pub(crate) fn learn(&mut self, conflict: Reason) -> Result<bool, AllocError> {
+    /// Learns a lemma from a conflict, goes back to the level at which it holds a cell, and holds that. Answers how deep the lemma
+    /// is, or None if no decision led to the conflict, so that there is no level to go back to.
+    pub(crate) fn learn(&mut self, conflict: Reason) -> Result<Option<u32>, AllocError> {
         self.note_aim();
         let Some(at) = self.resolve(conflict)? else {
-            return Ok(false);
+            return Ok(None);
         };
         self.shorten(at)?;
         let level = self.collect(at)?;
@@ -25,7 +25,7 @@ impl<'a> Search<'a> {
         let number = self.store.add(&self.learning.literals, depth)?;
         self.log_lemma(number)?;
         let Some(first) = self.learning.literals.first().copied() else {
-            return Ok(false);
+            return Ok(None);
         };
         if let Some((blocker, atom)) = last {
             let left = self.marks.left(first.cell);
@@ -36,7 +36,7 @@ impl<'a> Search<'a> {
         }
         self.hold(first, number)?;
         self.order.decay();
-        Ok(true)
+        Ok(Some(depth))
     }
 
     /// Collects the premises of a conflict, or of the exclusion of some colours.

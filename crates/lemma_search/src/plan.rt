@@ -139,7 +139,8 @@ impl<'a> Plan<'a> {
         Ok(())
     }
 
-    // Adds a step, and its lemma.
+    // Adds a step and, if it is a lemma, what is known of it. Lemmas must be added in the order of their numbers, from 0 without
+    // gaps, since `lemmas` is indexed by number.
     fn add(&mut self, stage: Stage) -> Result<(), AllocError> {
         self.stages.push(stage)?;
         if let Stage::Lemma(_, hints) = stage {

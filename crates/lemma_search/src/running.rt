@@ -10,8 +10,8 @@ use line_facts::LineEngine;
 use picture::{Axis, LineId, LineSet, MAX_SIDE, Picture};
 use std::alloc::{AllocError, Global};
 
-/// The bounds of a search: how many conflicts it learns from, and how many literals its lemmas have in all. If it `aims`, decisions
-/// repeat the colours with which it came furthest, which is for finding a picture.
+/// The bounds of a search: how many conflicts it learns from, and how many literals its lemmas have in all. If it `aims`, which is for
+/// finding a picture, decisions repeat the colours with which it came furthest, and it restarts in two ways in turn.
 #[derive(Clone, Copy)]
 pub struct Effort {
     pub conflicts: u32,
@@ -59,16 +59,16 @@ impl<'a> Search<'a> {
             return self.end(Step::End(reason));
         }
         self.begin(alloc)?;
-        let mut restarts = Restarts::new();
+        let mut restarts = Restarts::new(effort.aims);
         for _ in 0..u64::MAX {
             if let Some(reason) = self.propagate(engine)? {
                 if self.is_over(effort) {
                     return Ok(Ended::Undecided);
                 }
-                if !self.learn(reason)? {
+                let Some(depth) = self.learn(reason)? else {
                     return self.end(Step::End(reason));
-                }
-                restarts.count_conflict();
+                };
+                restarts.count_conflict(depth);
                 continue;
             }
             if self.marks.is_at_root() && self.differing == 0 && self.is_settled() {

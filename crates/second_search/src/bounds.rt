@@ -25,19 +25,16 @@ pub const BOUNDS: Bounds = Bounds {
 // How many times as many lines a tree may evaluate at first in a part, or after a long judgement, where few small trees close.
 pub(crate) const LONGER: u64 = 16;
 
-/// How far a search from clues alone goes in its first round: how many lines a tree may evaluate, and from how many conflicts a
-/// search with lemmas learns. From round to round the first grows fourfold, the second eightfold. After `rounds` rounds only trees
-/// are tried.
+/// How far a search from clues alone goes at first: how many lines a tree may evaluate, and then from how many conflicts a search
+/// with lemmas learns. After that only trees are tried, of which the first may evaluate four times as many lines.
 #[derive(Clone, Copy)]
 pub struct Turns {
     pub evaluations: u64,
     pub conflicts: u32,
-    pub rounds: u32,
 }
 
-/// The bounds of rounds that the program uses.
+/// The bounds that the program uses from clues alone.
 pub const TURNS: Turns = Turns {
     evaluations: 10_000,
-    conflicts: 4_000,
-    rounds: 3,
+    conflicts: 1_000_000,
 };

@@ -1,4 +1,4 @@
-//! The first picture with given clues: trees and searches with lemmas in turn.
+//! The first picture with given clues: by trees and a search with lemmas in turn.
 
 ghost use Rattle.std.specs.Prelude.{◌≡◌, ◌≤◌, IfOk, IfSome};
 ghost use Rattle.line_facts.specs.FactSets.{SameShape};
@@ -18,8 +18,8 @@ use line_facts::LineEngine;
 use picture::{CellSet, Picture};
 use std::alloc::{AllocError, Global};
 
-// Finds a picture as `find_filling` does: by trees and by lemmas in turn, within bounds that grow, and after some rounds only by
-// trees. Searches with lemmas prefer background first, and then other colours than those of the scene's picture, which is blank.
+// Finds a picture as `find_filling` does: by small trees, by a search with lemmas, and then by larger trees. The search prefers other
+// colours than those of the scene's picture, which is blank.
 pub(crate) fn find_in_turns<E: LineEngine>(
     alloc: Global,
     engine: &mut E,
@@ -34,58 +34,27 @@ pub(crate) fn find_in_turns<E: LineEngine>(
     ensures same_longest { E.longest engine.new ≡ E.longest engine.old }
 {
     let _ = engine.calls();
-    let full = full_like(scene.picture)?;
-    let Turns {
-        mut evaluations,
-        mut conflicts,
-        rounds,
-    } = turns;
-    for _ in 0..rounds {
-        let ladder = Ladder {
-            first_bound: evaluations,
-            judging: 0,
-            holds: false,
-            keeps: false,
-        };
-        if let Some(decided) = take_turn(alloc, engine, scene, ladder, evaluations, &mut 0)? {
-            return Ok(filling_of(scene, decided));
-        }
-        if let Some(picture) = learn_both(alloc, engine, scene, &full, conflicts)? {
-            return Ok(Some(picture));
-        }
-        evaluations = evaluations.saturating_mul(4);
-        conflicts = conflicts.saturating_mul(8);
+    let ladder = Ladder {
+        first_bound: turns.evaluations,
+        judging: 0,
+        holds: false,
+        keeps: false,
+    };
+    if let Some(decided) = take_turn(alloc, engine, scene, ladder, turns.evaluations, &mut 0)? {
+        return Ok(filling_of(scene, decided));
     }
+    if let Some(picture) = learn_first(alloc, engine, scene, turns.conflicts)? {
+        return Ok(Some(picture));
+    }
+    let evaluations = turns.evaluations.saturating_mul(4);
     find_filling(alloc, engine, scene, false, evaluations)
 }
 
-// Looks for such a picture by two searches with lemmas, each of which learns from at most `conflicts` conflicts: the first avoids
-// the colours of a full picture, the second those of the scene's.
-fn learn_both<E: LineEngine>(
-    alloc: Global,
-    engine: &mut E,
-    scene: &Scene,
-    full: &Picture,
-    conflicts: u32,
-) -> Result<Option<Picture>, AllocError>
-    ensures other { IfOk result (λ found. IfSome found
-        (IsOtherIn scene.now.clues.now scene.now.picture.now scene.now.facts.now)) }
-    ensures calls { E.calls engine.old ≤ E.calls engine.new }
-    ensures same_longest { E.longest engine.new ≡ E.longest engine.old }
-{
-    let found = learn_first(alloc, engine, scene, full, conflicts)?;
-    if found.is_some() {
-        return Ok(found);
-    }
-    learn_first(alloc, engine, scene, scene.picture, conflicts)
-}
-
-// One such search, which avoids the colours of a picture. Nothing is promised of what `learn` finds, so it is checked.
+// Looks for such a picture by lemmas, from so many conflicts at most. Nothing is promised of what `learn` finds, so it is checked.
 fn learn_first<E: LineEngine>(
     alloc: Global,
     engine: &mut E,
     scene: &Scene,
-    avoided: &Picture,
     conflicts: u32,
 ) -> Result<Option<Picture>, AllocError>
     ensures other { IfOk result (λ found. IfSome found
@@ -99,7 +68,7 @@ fn learn_first<E: LineEngine>(
         aims: true,
     };
     let givens = CellSet::empty();
-    let found = learn(alloc, engine, scene.clues, &givens, avoided, effort)?;
+    let found = learn(alloc, engine, scene.clues, &givens, scene.picture, effort)?;
     let Found::Other(picture) = found else {
         return Ok(None);
     };
@@ -108,17 +77,4 @@ fn learn_first<E: LineEngine>(
     } else {
         Ok(None)
     }
-}
-
-// A picture of a picture's size that is all of colour 1.
-fn full_like(picture: &Picture) -> Result<Picture, AllocError> {
-    let mut full = picture.copy()?;
-    for row in 0..picture.height() {
-        for col in 0..picture.width() {
-            if row < full.height() && col < full.width() {
-                full.set(row, col, 1);
-            }
-        }
-    }
-    Ok(full)
 }
