@@ -93,6 +93,7 @@ UNLIKE = (
     ({"unknown": [1, 3]}, "a given lies outside the picture"), ({"flaws": ["spare 1 3"], "fit": False}, "a given lies outside the picture"),
     ({"flaws": ["alike . c"], "fit": False}, "a flaw names a colour that the picture does not have"), ({"background": "000000"}, "the numbers of colours or open cells differ, or the background"),
     ({"fit": False}, "the field 'fit' is not what verdict and flaws say"), ({"flaws": ["blank"]}, "the field 'fit' is not what verdict and flaws say"),
+    ({"limit": "9 splits"}, "the field 'limit' goes with what is undecided"),
 )
 TORN = (
     ('"verdict"', '"verdict":"ambiguous","verdict"', "it has a field twice"), ('"accepted":true', '"accepted":false,"accepted":true', "it has a field twice"),

@@ -61,6 +61,7 @@ def _compare(row: Row) -> None:
         _need(name in row, f"the field {name!r} is missing")
     for name in ("grade", "figures", "lines"):
         _need(name not in row or verdict == "unique", f"the field {name!r} goes with the verdict 'unique'")
+    _need("limit" not in row or verdict == "undecided" or "unknown" in row, "the field 'limit' goes with what is undecided")
     if "picture" in row:
         _compare_picture(row)
     _need("picture" in row or not row.keys() & {"flaws", "unknown"}, "the field 'picture' is missing")
