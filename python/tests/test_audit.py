@@ -12,6 +12,7 @@ import io
 import json
 import os
 import re
+import shutil
 import signal
 import sys
 import time
@@ -1485,6 +1486,19 @@ class Again(Case):
             # What was said of the folder is no row of a file.
             self.assertEqual(self.run_audit(*words, "--resume", status=0).stderr, "")
             self.assertEqual(list(self.read("rows.jsonl").items()), list(before.items()))
+
+    def test_a_file_that_has_the_name_of_a_folder_before_keeps_no_rows(self):
+        self.put("a.png/b.ppm", p3(UNIQUE))
+        (self.folder / "own").mkdir()
+        (self.folder / "own" / "a.givens").write_text("given 1 1\n")
+        words = ["site", "--givens", "own", "--allow", "9", "--jsonl", "rows.jsonl", "--resume", "--jobs", "1"]
+        in_process(self.folder, *words)
+        shutil.rmtree(self.site / "a.png")
+        for name in ("a.png", "a.gif"):
+            self.put(name, p3(UNIQUE))
+        status, said = in_process(self.folder, *words)
+        self.assertEqual((status, said), (3, "nonobench-audit: rows left out, of files that are not among these: 1\n"))
+        self.assertEqual({*self.read("rows.jsonl")}, {"site/a.gif", "site/a.png"})
 
     def test_resume_closes_the_rows_that_it_reads(self):
         self.put("one.ppm", p3(UNIQUE))

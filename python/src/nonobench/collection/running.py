@@ -224,7 +224,7 @@ class Run:
         places = Places(options.certificates, options.givens, options.is_untrusted, is_written)
         read = folders_of([*options.paths, *([] if options.givens is None else [options.givens])])
         for found in find(options.paths, places):
-            if found.why:
+            if found.why and not os.path.basename(found.path):
                 self._unlisted.add(found.name)
             if not is_in_share(found.name, options.shard):
                 self._is_elsewhere = True
