@@ -104,7 +104,12 @@ class Pictures(unittest.TestCase):
         triples = [ground if cell == 1 else [(255, 255, 255), None, (255, 0, 0), (0, 0, 200)][cell] for cell in (1, 0, 2, 2, 0)]
         text = nonobench.picture_of_image(data, ground)
         self.assertEqual(text.split(b"\n")[:8], [b"P3", b"5 4", b"255", *(b"%d %d %d" % triple for triple in triples)])
-        self.assertEqual(nonobench.picture_of_image(data), nonobench.picture_of_image(data, (255, 255, 255)))
+        for white in ((), (None,)):
+            self.assertEqual(nonobench.picture_of_image(data, *white), nonobench.picture_of_image(data, (255, 255, 255)))
+        for image in (data, b"P1 1 1 1"):  # also where no pixel is transparent
+            for ground in ((0, 0, 256), (-1, 0, 0), (0, 0), (0, 0, 0.5), 7, "red"):
+                with self.subTest((image, ground)), self.assertRaisesRegex(ValueError, "^background must be a triple of numbers from 0 to 255$"):
+                    nonobench.picture_of_image(image, ground)
 
     def test_faults(self):
         for data, name, text in (

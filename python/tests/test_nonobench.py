@@ -265,10 +265,15 @@ class Answers(unittest.TestCase):
             nonobench.clues(b" " * 16777217)
         with self.assertRaisesRegex(PictureFault, "^ppm NotP3 at byte 0$"):
             nonobench.clues(b"")
-        for columns, rows, cell, maxval in ((2, 2, (0, 0, 0), 255), (-1, -1, (0, 0, 0), 255), (1, 1, (0, 0, 256), 255), (1, 1, (0, -1, 0), 255), (1, 1, (4, 5, 70000), 65535)):
+        for columns, rows, cell, maxval in ((2, 2, (0, 0, 0), 255), (1, 1, (0, 0, 256), 255), (1, 1, (0, -1, 0), 255), (1, 1, (4, 5, 70000), 65535)):
             with self.subTest((columns, rows, cell)), self.assertRaisesRegex(ValueError, f"^{columns} by {rows} cells need "):
                 nonobench.picture_of(columns, rows, [cell], maxval)
         self.assertRaises(ValueError, nonobench.picture_of, 0, 5, [])
+        for name, words in (("columns", (121, 1)), ("columns", (-1, -1)), ("columns", (True, 1)), ("rows", (1, 1.0)), ("maxval", (1, 1, 0)), ("maxval", (1, 1, 65536)), ("maxval", (1, 1, 255.0))):
+            columns, rows, *maxval = words
+            with self.subTest(words), self.assertRaisesRegex((TypeError, ValueError), f"^{name} must be a whole number from 1 to "):
+                nonobench.picture_of(columns, rows, [(0, 0, 0)] * int(columns * rows), *maxval)
+        self.assertRaises(TypeError, nonobench.picture_of, 1, 1, [(0, 0, 0.5)])
 
     def test_a_copy_of_any_given(self):
         """As it comes out of a task queue."""

@@ -2,14 +2,15 @@
 
 from __future__ import annotations
 
+import contextlib
 import operator
-from typing import Iterable, Optional, Union
+from typing import Iterable, Optional, SupportsIndex, Union
 
 from ._answers import (
     Assessment, Audit, Clues, Fault, GivensFault, LengthFault, Proved, Result, Verdict, assessment_of, clues_of, fault_of, givens_of,
     proved_of, result_of, verdict_of,
 )
-from ._library import DONE, MEMORY, OPTIONS
+from ._library import DONE, MEMORY
 from ._serve import ASSESS, CHECK, PROVE, PUBLISHED, SESSION, answer
 
 Bytes = Union[bytes, bytearray, memoryview]
@@ -19,7 +20,8 @@ Colour = tuple[int, int, int]
 MOST_BYTES = 16_777_216
 MOST_ALLOWANCE = 99_999
 NO_ALLOWANCE = 2**32 - 1
-NO_TRIPLE = "background must be a triple of numbers from 0 to 65535"
+MOST_CELLS = 120  # of a side
+MOST_SAMPLE = 65535
 
 
 class AnyGiven:
@@ -128,11 +130,10 @@ class Questions:
 
     def _ask(self, kind: int, picture: bytes, background: Optional[Colour], rest: bytes, givens: bytes = b"") -> list[bytes]:
         """The texts of an answer. Raises what its status tells."""
-        status, texts = self._answer(kind, picture, _word(background), rest, givens)
+        ground = b"" if background is None else b"%d,%d,%d" % triple_of(background)
+        status, texts = self._answer(kind, picture, ground, rest, givens)
         if status == MEMORY:
             raise MemoryError("nonobench: memory")
-        if status == OPTIONS:
-            raise ValueError(NO_TRIPLE)
         if status != DONE:
             raise fault_of(texts[-1].decode("ascii"), rest.partition(b"\n")[2] if kind == ASSESS else rest)
         return texts
@@ -148,10 +149,13 @@ verify, prove = _here.verify, _here.prove
 
 
 def picture_of(columns: int, rows: int, triples: Iterable[Colour], maxval: int = 255) -> bytes:
-    """A P3 text of cells by rows, each a red, a green and a blue from 0 to maxval."""
-    cells = list(triples)
-    if min(columns, rows) < 1 or len(cells) != columns * rows or not all(0 <= sample <= maxval for cell in cells for sample in cell):
-        raise ValueError(f"{columns} by {rows} cells need {columns * rows} colours up to {maxval}, and at least one; not these {len(cells)}")
+    """A P3 text of cells by rows, each a red, a green and a blue from 0 to maxval. ValueError names what the reader would refuse."""
+    cells = [(*map(operator.index, cell),) for cell in triples]
+    for name, value, most in (("columns", columns, MOST_CELLS), ("rows", rows, MOST_CELLS), ("maxval", maxval, MOST_SAMPLE)):
+        if isinstance(value, bool) or not isinstance(value, SupportsIndex) or not 1 <= operator.index(value) <= most:
+            raise ValueError(f"{name} must be a whole number from 1 to {most}")
+    if len(cells) != columns * rows or not all(0 <= sample <= maxval for cell in cells for sample in cell):
+        raise ValueError(f"{columns} by {rows} cells need {columns * rows} colours up to {maxval}; not these {len(cells)}")
     lines = [f"P3\n{columns} {rows}\n{maxval}", *(f"{red:d} {green:d} {blue:d}" for red, green, blue in cells)]
     return ("\n".join(lines) + "\n").encode("ascii")
 
@@ -189,12 +193,10 @@ def _allow(allowance: Optional[int]) -> bytes:
     return f"allow {allowance:d}\n".encode("ascii")
 
 
-def _word(background: Optional[Colour]) -> bytes:
-    """The background as the library takes it: empty where there is none."""
-    if background is None:
-        return b""
-    try:
+def triple_of(background: Colour, most: int = MOST_SAMPLE) -> Colour:
+    """A background as three numbers from 0 to another one."""
+    with contextlib.suppress(TypeError, ValueError):
         red, green, blue = map(operator.index, background)
-        return f"{red:d},{green:d},{blue:d}".encode("ascii")
-    except (TypeError, ValueError):
-        raise ValueError(NO_TRIPLE) from None
+        if 0 <= min(red, green, blue) <= max(red, green, blue) <= most:
+            return red, green, blue
+    raise ValueError(f"background must be a triple of numbers from 0 to {most}")

@@ -15,9 +15,8 @@ import zlib
 from typing import Callable, Iterator, NamedTuple, NoReturn, Optional
 
 from ._answers import ImageFault
-from ._calls import Bytes, Colour, bytes_of, picture_of
+from ._calls import MOST_CELLS, Bytes, Colour, bytes_of, picture_of, triple_of
 
-MOST_CELLS = 120  # of a side
 WHITE: Colour = (255, 255, 255)
 DEEP, PROFILE, GAMMA, FRAMES = "samples of 16 bits", "a colour profile", "a gamma", "several frames"
 SMALL, HALF, LOSSY, TURNED = "a frame smaller than its screen", "half transparent", "lossy", "turned by its orientation"
@@ -47,13 +46,15 @@ def colour_shown(colour: Colour, maxval: int) -> Colour:
     return red, green, blue
 
 
-def picture_of_image(data: Bytes, background: Colour = WHITE) -> bytes:
+def picture_of_image(data: Bytes, background: Optional[Colour] = None) -> bytes:
     """The P3 text of a PNG, GIF, BMP, WebP, PGM, PBM or raw PPM image, a cell for each pixel as a browser shows it.
 
-    Transparent pixels get the background. Raises ImageFault if the image is refused, and ImportError if Pillow is missing for it.
+    Transparent pixels get the background: white, or a triple of numbers from 0 to 255, and ValueError for another one. Raises
+    ImageFault if the image is refused, and ImportError if Pillow is missing for it.
     """
+    ground = WHITE if background is None else triple_of(background, 255)
     pixels = pixels_of(bytes_of(data))
-    return picture_of(pixels.columns, len(pixels.cells) // pixels.columns, pixels.triples(background))
+    return picture_of(pixels.columns, len(pixels.cells) // pixels.columns, pixels.triples(ground))
 
 
 def is_image(data: bytes) -> bool:
