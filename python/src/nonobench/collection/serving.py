@@ -83,13 +83,14 @@ def serve(memory: int) -> None:
     begin(memory)
     gc.set_threshold(20_000)
     asked = _asked()
-    settings = next(asked, None)
-    if settings is None:  # the run was stopped before it said so much
+    first = next(asked, None)
+    if first is None:  # the run was stopped before it said so much
         return
-    if Settings(*settings).coding != sys.getfilesystemencoding():  # a name would be that of another file
-        sys.exit(f"nonobench-audit: names of files are {sys.getfilesystemencoding()} in its process, and not {Settings(*settings).coding}")
-    judging = Judging(Settings(*settings), answers)
-    certificates.NEW = Settings(*settings).new
+    settings = Settings(*first)
+    if settings.coding != sys.getfilesystemencoding():  # a name would be that of another file
+        sys.exit(f"nonobench-audit: names of files are {sys.getfilesystemencoding()} in its process, and not {settings.coding}")
+    judging = Judging(settings, answers)
+    certificates.NEW = settings.new
     answers.put(0, "ready", "")
     answers.flush()  # before a file can end the process
     left = select.poll()
@@ -340,6 +341,7 @@ class Judging:
             if by is None and said.open:  # the grade is that of a certificate, and none lies beside: of this one
                 self._tell(task, about)
                 self._row = {**self._row, **graded(self._desk.assess(puzzle, made.encode("ascii")))}
+
 
 def unread(name: str, error: Unreadable, has_times: bool) -> str:
     """The row of a file that cannot be read."""
