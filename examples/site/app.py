@@ -238,11 +238,15 @@ def ink_of(triple):
     return f"background: rgb({red}, {green}, {blue}); color: {figure}"
 
 
+def given_of(triple):
+    """How a given cell looks. Each has a frame and a mark, whatever its colour: a cross where it stays empty."""
+    return f'<td class="given" style="{ink_of(triple)}">{"×" if triple == WHITE else "●"}</td>'
+
+
 def table_of(puzzle):
     """The table of a puzzle, with nothing that a stranger wrote. A template takes long for thousands of cells."""
     inks = {letter: ink_of(triple) for letter, triple in puzzle["colours"].items()}
-    # Each given cell has a frame and a mark, whatever its colour: a cross where it stays empty.
-    looks = {triple: f'<td class="given" style="{ink_of(triple)}">{"×" if triple == WHITE else "●"}</td>' for triple in {tuple(triple) for _, _, triple in puzzle["givens"]}}
+    looks = {triple: given_of(triple) for triple in {tuple(triple) for _, _, triple in puzzle["givens"]}}
     cells = [["<td></td>"] * len(puzzle["columns"]) for _ in puzzle["rows"]]
     for row, column, triple in puzzle["givens"]:
         cells[row - 1][column - 1] = looks[tuple(triple)]
@@ -387,16 +391,12 @@ def network(address):
     return ipaddress.ip_address(address).exploded[:19]
 
 
-def home(channel):
-    return network(channel.addr[0])
-
-
 def to_close(channels):
     """Which one makes room: of the address that has the most, the longest silent. Of those that wait for answers, if they are many; else they come last."""
     waiting = [channel for channel in channels if channel.requests]
     channels = waiting if len(waiting) > MOST_WAITING else channels
-    counts = Counter(map(home, channels))
-    return min(channels, key=lambda channel: (-counts[home(channel)], bool(channel.requests), channel.last_activity))
+    counts = Counter(network(channel.addr[0]) for channel in channels)
+    return min(channels, key=lambda channel: (-counts[network(channel.addr[0])], bool(channel.requests), channel.last_activity))
 
 
 class Turns:
@@ -410,7 +410,7 @@ class Turns:
 
     def append(self, channel):
         """Puts a connection behind those of its address."""
-        self.waiting.setdefault(home(channel), deque()).append(channel)
+        self.waiting.setdefault(network(channel.addr[0]), deque()).append(channel)
 
     def popleft(self):
         """Takes the first connection of the address whose turn it is."""
