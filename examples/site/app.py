@@ -455,6 +455,7 @@ def bound_connections():
             taken = super().received(data)
             if self.empty:  # blank lines, of which waitress reads any number, and slowly
                 self.empty, self.error = False, BadRequest("Blank lines")
+            self.expect_continue = self.expect_continue and not self.completed  # else waitress would wait for a body
             return len(data) if self.completed else taken  # what comes behind it is not read
 
     class Channel(HTTPChannel):

@@ -302,6 +302,13 @@ class Serving(unittest.TestCase):
             client.sendall(b"GET /puzzles/" + b"1" * 5000 + b" HTTP/1.0\r\n\r\n")
             self.assertIn(b" 404 ", client.recv(1 << 16).split(b"\r\n")[0])
 
+    def test_who_waits_to_go_on_gets_an_answer(self):
+        """Also where no body comes, or one that is far too long."""
+        for line, length, status in (("GET /", 0, "200"), ("POST /puzzles", 0, "400"), ("POST /puzzles", 5 << 20, "413"), ("POST /puzzles", 3, "100")):
+            with self.subTest(status), socket.create_connection(("127.0.0.1", self.port), timeout=STARTING) as client:
+                client.sendall(f"{line} HTTP/1.1\r\nHost: x\r\nExpect: 100-continue\r\nContent-Length: {length}\r\n\r\n".encode())
+                self.assertEqual(client.recv(1 << 16).decode().split()[1], status)
+
     def test_an_address_that_is_none_is_refused(self):
         with socket.create_connection(("127.0.0.1", self.port), timeout=STARTING) as client:
             client.sendall(b"GET http://[ HTTP/1.1\r\nHost: x\r\n\r\n")
