@@ -9,7 +9,7 @@ import pytest
 
 ROOT = Path(__file__).resolve().parents[2]
 PROGRAM = '#!/bin/sh\necho nonobench 9.9.9\n'
-OURS = ['share/nonobench/files', 'share/nonobench/install']
+OURS = ['share/nonobench/files', 'share/nonobench/folders', 'share/nonobench/install']
 
 
 def write(path, text, mode=0o644):
@@ -80,7 +80,7 @@ def test_others_may_use_what_is_installed(archive, checkout, folder, tmp_path):
     prefix = tmp_path / 'pre' / 'fix'
     words = [tmp_path / folder / 'install', '--prefix', prefix]
     subprocess.run(words, env={'PATH': '/usr/bin:/bin'}, capture_output=True, check=True, umask=0o077)
-    programs = {prefix / 'bin/nonobench', prefix / OURS[1]}
+    programs = {prefix / 'bin/nonobench', prefix / OURS[2]}
     for path in (prefix.parent, prefix, *prefix.rglob('*')):
         assert path.stat().st_mode & 0o777 == (0o755 if path.is_dir() or path in programs else 0o644), path
 
@@ -130,7 +130,7 @@ def test_what_cannot_be_removed_is_told_and_stays_in_the_list(archive, is_update
     assert 'bin/old' in (prefix / OURS[0]).read_text().splitlines() and 'removed nonobench' not in out
     assert (prefix / 'bin/nonobench').exists() == is_update
     shutil.rmtree(prefix / 'bin/old')
-    assert run(prefix / OURS[1], '--uninstall')[0] == 0
+    assert run(prefix / OURS[2], '--uninstall')[0] == 0
     assert not (prefix / 'bin').exists() and files(prefix) == []
 
 
@@ -141,6 +141,43 @@ def test_halves_go_too_and_what_is_not_ours_stays(archive, tmp_path):
     write(prefix / mine, 'x')
     assert run(archive / 'install', '--prefix', prefix, '--uninstall')[0] == 0
     assert files(prefix) == [mine]
+
+
+def test_folders_that_were_there_stay(archive, tmp_path):
+    prefix = tmp_path / 'prefix'
+    for folder in ('bin', 'share/man/man1'):
+        (prefix / folder).mkdir(parents=True)
+    write(archive / 'share/man/man1/nonobench.1', '')
+    write(archive / 'lib/old/one.txt', '')
+    assert run(archive / 'install', '--prefix', prefix)[0] == 0
+    shutil.rmtree(archive / 'lib/old')
+    assert run(archive / 'install', '--prefix', prefix)[0] == 0
+    assert not (prefix / 'lib/old').exists()
+    assert run(archive / 'install', '--prefix', prefix, '--uninstall')[0] == 0
+    assert sorted(str(path.relative_to(prefix)) for path in prefix.rglob('*')) == ['bin', 'share', 'share/man', 'share/man/man1']
+    # An earlier version did not say which folders it made.
+    assert run(archive / 'install', '--prefix', prefix)[0] == 0
+    (prefix / OURS[1]).unlink()
+    assert run(archive / 'install', '--prefix', prefix, '--uninstall')[0] == 0
+    assert list(prefix.iterdir()) == []
+
+
+@pytest.mark.parametrize('name', ['bin/nonobench', OURS[0]])
+def test_a_folder_where_a_file_goes_is_refused(archive, name, tmp_path):
+    prefix = tmp_path / 'prefix'
+    write(prefix / name / 'mine', 'x')
+    assert run(archive / 'install', '--prefix', prefix) == (1, '', f'install: {prefix / name} is a folder\n')
+    assert files(tmp_path / 'prefix') == [f'{name}/mine']
+
+
+def test_the_path_is_told_where_it_has_another(archive, tmp_path):
+    prefix, link = tmp_path / 'prefix', tmp_path / 'link'
+    link.symlink_to(prefix)
+    write(tmp_path / 'other/nonobench', PROGRAM, 0o755)
+    for at in (prefix, f'{prefix}/', link, './link', 'link/'):
+        for path, told in ((f'{prefix}/bin', False), (f'{link}/bin', False), (f'{tmp_path}/other:{prefix}/bin', True), ('/sbin', True)):
+            status, _, err = run(archive / 'install', '--prefix', at, cwd=tmp_path, PATH=f'{path}:/usr/bin:/bin')
+            assert (status, 'bin is not on the PATH' in err) == (0, told), (at, path)
 
 
 def test_below_the_home_and_from_where_we_stand(archive, tmp_path):
