@@ -325,7 +325,7 @@ def guard(app):
             return jsonify(refused=str(error)), error.status
         return render_template("form.html", title="Not published", reason=str(error)), error.status
 
-    @app.errorhandler(sqlite3.OperationalError)
+    @app.errorhandler(sqlite3.Error)
     def cannot_store(error):
         app.logger.error("the database: %s", error)
         return refuse(Refused("The site cannot use its database now. Try again later.", 503))

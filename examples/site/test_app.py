@@ -383,11 +383,14 @@ class Site(Case):
         self.assertIn("The certificate gives more than 1000 cells.", answer.text)
 
     def test_a_database_that_cannot_be_used(self):
-        self.app.config["DATABASE"] += "/none"
-        with self.assertLogs(self.app.logger):
-            answer = self.bring(DIAGONAL, DIAGONAL_CERT)
-        self.assertEqual(answer.status_code, 503)
-        self.assertIn("The site cannot use its database now. Try again later.", answer.text)
+        other = Path(self.app.config["DATABASE"])
+        other.write_text("another file")
+        for place in (other, other / "none"):
+            self.app.config["DATABASE"] = place
+            with self.assertLogs(self.app.logger):
+                answer = self.bring(DIAGONAL, DIAGONAL_CERT)
+            self.assertEqual(answer.status_code, 503)
+            self.assertIn("The site cannot use its database now. Try again later.", answer.text)
 
     def test_names_are_not_trusted(self):
         self.bring(DIAGONAL, DIAGONAL_CERT, "<script>alert(1)</script>" + "x" * 500, "../../etc/passwd")
