@@ -10,6 +10,7 @@ import importlib.util
 import os
 import random
 import resource
+import select
 import socket
 import subprocess
 import sys
@@ -119,7 +120,7 @@ class Serving(unittest.TestCase):
         self.serve(str(HERE / "app.py"))
 
     def serve(self, *words):
-        """Starts the site, by words for Python, and waits until it answers."""
+        """Starts the site, by words for Python, and waits until it says so."""
         folder = tempfile.TemporaryDirectory()
         self.addCleanup(folder.cleanup)
         with socket.socket() as free:
@@ -128,16 +129,12 @@ class Serving(unittest.TestCase):
         env = {**os.environ, "SITE_LISTEN": f"127.0.0.1:{self.port}", "SITE_DATABASE": os.path.join(folder.name, "puzzles")}
         env["PYTHONPATH"] = f"{HERE}{os.pathsep}{env.get('PYTHONPATH', '')}"
         words = ["sh", "-c", 'ulimit -S -n 1024; exec "$0" "$@"', sys.executable, *words]  # the usual bound of open files
-        self.server = subprocess.Popen(words, env=env, stdout=subprocess.DEVNULL)
+        self.server = subprocess.Popen(words, env=env, stdout=subprocess.PIPE, text=True)
+        self.addCleanup(self.server.stdout.close)
         self.addCleanup(self.server.wait)
         self.addCleanup(self.server.kill)
-        end = time.monotonic() + STARTING
-        while self.server.poll() is None and time.monotonic() < end:
-            try:
-                return self.listed()
-            except OSError:
-                time.sleep(0.1)
-        return self.fail("the site does not answer")
+        self.assertTrue(select.select([self.server.stdout], [], [], STARTING)[0], "the site does not say that it serves")
+        self.assertEqual(self.server.stdout.readline(), f"Serving on 127.0.0.1:{self.port}\n")
 
     def listed(self):
         """How many puzzles are listed."""
