@@ -27,7 +27,7 @@ from werkzeug.exceptions import HTTPException
 
 MOST_TITLE = 100
 MOST_SHOWN = 200
-MOST_OPEN = 500  # connections
+MOST_OPEN = 500  # connections; fewer where few descriptors are allowed
 MOST_WAITING = 400  # of them that wait for an answer, so that others come in
 MOST_FILES = 4096  # descriptors: waitress takes up to three for each connection
 MOST_PICTURE = 1 << 18  # bytes
@@ -466,7 +466,7 @@ def bound_connections():
         def __init__(self, *place, **named):
             super().__init__(*place, **named)
             others = [other for other in list(self._map.values()) if isinstance(other, HTTPChannel) and other is not self and not other.will_close]
-            if len(others) >= MOST_OPEN:
+            if len(others) >= min(MOST_OPEN, files // 4):
                 to_close(others).will_close = True
 
     BaseWSGIServer.channel_class = Channel

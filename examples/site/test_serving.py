@@ -209,6 +209,20 @@ class Serving(unittest.TestCase):
                 self.assertEqual(status, 409 if sent else 303)
                 self.assertLess(seconds, SECONDS + waited(self.server.pid) - idle)
 
+    def test_few_open_files_are_enough(self):
+        """300 clients, each with a file of what it sent, where the site may open 256."""
+        self.server.kill()
+        self.serve("-c", "import app, resource; resource.setrlimit(resource.RLIMIT_NOFILE, (256, 256)); app.main()")
+        with contextlib.ExitStack() as opened:
+            for _ in range(300):
+                client = opened.enter_context(socket.create_connection(("127.0.0.1", self.port), STARTING, ("127.0.0.2", 0)))
+                client.setblocking(False)
+                with contextlib.suppress(OSError):  # it is closed already
+                    client.send(b"POST /puzzles HTTP/1.1\r\nHost: x\r\nContent-Length: 1000000\r\n\r\n" + b"x" * 70000)
+            idle, began = waited(self.server.pid), time.monotonic()
+            self.assertEqual(self.listed(), 0)
+            self.assertLess(time.monotonic() - began, SECONDS + waited(self.server.pid) - idle)
+
     @takes_long
     def test_who_asks_much_holds_up_nobody_else(self):
         """560 connections of another address, each with as many requests as it can send."""
