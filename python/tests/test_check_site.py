@@ -13,7 +13,7 @@ from pathlib import Path
 
 import nonobench
 import pytest
-from nonobench import check_site
+from nonobench import check_site, collection
 from nonobench.collection import finding
 from nonobench.collection.rows import csv_cells, table_line
 
@@ -582,6 +582,18 @@ def test_a_worker_ends_a_call_by_its_processor_time(way):
             assert [int(word, 16) & sum(1 << number - 1 for number in ends) for word in held] == [0, 0]
     finally:
         signal.pthread_sigmask(signal.SIG_SETMASK, mask)
+        for number, handler in before.items():
+            signal.signal(number, handler)
+
+
+@pytest.mark.parametrize("main", (check_site.main, collection.main))
+def test_programs_learn_how_their_processes_end(site, main):
+    """Also where who starts them ignores that."""
+    before = {number: signal.signal(number, signal.SIG_IGN) for number in (signal.SIGCHLD, signal.SIGINT, signal.SIGTERM)}
+    try:
+        assert main(["site"]) == 3
+        assert signal.getsignal(signal.SIGCHLD) == signal.SIG_DFL
+    finally:
         for number, handler in before.items():
             signal.signal(number, handler)
 

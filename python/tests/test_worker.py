@@ -34,6 +34,11 @@ TILE = b"P3 1 1 1 0 0 0"
 ENDLESS = b"P3 60 60 3 " + b"".join(b"%d 0 0 " % at if at else b"3 3 3 " for at in ((row + column) % 4 for row in range(60) for column in range(60)))
 
 
+# A chequerboard of 60 by 60 cells in four colours, whose verdict takes longer than anybody waits.
+INKS = ("1 1 1", "0 0 0", "1 0 0", "0 0 1")
+ENDLESS = f"P3 60 60 1 {' '.join(INKS[(at // 60 + at % 60) % 4] for at in range(3600))}\n".encode()
+
+
 class Workers(unittest.TestCase):
     """Questions to another process."""
 
@@ -119,6 +124,21 @@ class Workers(unittest.TestCase):
                 for _ in range(2):
                     with self.assertRaisesRegex(MemoryError, "larger than its memory"):
                         worker.clues(DIAGONAL)
+
+    def test_what_is_told_where_the_status_is_lost(self):
+        """Where a program ignores the end of its processes, none has a status, and no Python is missing for that."""
+        before = signal.signal(signal.SIGCHLD, signal.SIG_IGN)
+        self.addCleanup(signal.signal, signal.SIGCHLD, before)
+        with nonobench.Worker(seconds=300, memory=40 << 20, processor=200) as worker:
+            for _ in range(2):
+                with self.assertRaisesRegex(MemoryError, "^the worker ended$"):
+                    worker.check(DIAGONAL, b" " * 16777216)
+                self.assertEqual(worker.clues(DIAGONAL), nonobench.clues(DIAGONAL))
+        with nonobench.Worker(seconds=300, processor=1) as worker, self.assertRaisesRegex(TimeoutError, "^no answer within its processor time$"):
+            worker.verdict(ENDLESS)
+        for program in ("/bin/true", "/bin/echo", "/bin/cat"):
+            with self.subTest(program), unittest.mock.patch.object(sys, "executable", program), self.assertRaisesRegex(OSError, "needs a Python"):
+                nonobench.Worker().clues(TILE)
 
     def test_bounds(self):
         for bounds in ({"memory": "x"}, {"memory": 1.5}, {"memory": None}, {"seconds": "5"}, {"seconds": None}):

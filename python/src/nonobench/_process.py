@@ -159,6 +159,12 @@ class Child:
         self.end()
         return -9 if self.is_there() else self._process.returncode
 
+    def has_begun(self) -> bool:
+        """Whether it told that it begins, by an empty line. It is asked once, before it is ended."""
+        assert self._process.stdout
+        os.set_blocking(self._process.stdout.fileno(), False)
+        return self._process.stdout.read(1) == b"\n"
+
     def is_there(self) -> bool:
         """Whether the process has not ended."""
         return self._process.poll() is None

@@ -9,6 +9,7 @@ from __future__ import annotations
 import argparse
 import itertools
 import os
+import signal
 import sys
 import traceback
 from concurrent.futures import ThreadPoolExecutor
@@ -180,6 +181,7 @@ def main(words: Optional[list[str]] = None) -> int:
     is_closed = sys.stdout is None
     try:
         _loading.end()
+        signal.signal(signal.SIGCHLD, signal.SIG_DFL)  # where it is ignored, no process would have a status
         hold_streams()
         told = _parser().parse_args(words)
         if is_closed:

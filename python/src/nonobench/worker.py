@@ -95,10 +95,9 @@ class Worker(Questions):
                 answer = process.ask(self._number, kind, files, self._seconds, self._processor)
             except BaseException as error:
                 if process:
+                    error = process.why() if isinstance(error, EOFError) else error
                     process.end()
-                    if isinstance(error, EOFError):
-                        raise process.why() from error
-                raise
+                raise error
             finally:
                 self._asked = before
             self._process = process
@@ -112,19 +111,23 @@ class _Process(Child):
         super().__init__("_serve", memory, ("-S", "-B"), cwd="/", start_new_session=True)
 
     def why(self) -> Exception:
-        """What is told of a process that ended in the middle of a question: by status 1 Python tells what its program raised."""
+        """What is told of a process that ended in the middle of a question: by status 1 Python tells what its program raised. Where
+        SIGCHLD is ignored, or another part of the program waits for all that end, its status is lost, and seems to be 0.
+        """
         if self.is_stopped:
             return RuntimeError("the worker was closed while it was asked")
-        if self.status() == 1:
+        has_begun, status = self.has_begun(), self.status()
+        if status == 1:
             return RuntimeError("the worker's program failed; it says why on standard error")
-        if self.status() == -signal.SIGXCPU:
+        if status == -signal.SIGXCPU or has_begun and status == 0 and time.monotonic() >= self._spent:
             return TimeoutError("no answer within its processor time")
-        is_python = self.status() < 0 or self.status() == NO_MEMORY
+        is_python = has_begun or status < 0 or status == NO_MEMORY
         return MemoryError("the worker ended") if is_python else OSError(_NO_PYTHON.format(sys.executable))
 
     def ask(self, number: int, kind: int, files: tuple[bytes, ...], seconds: float, processor: int) -> tuple[int, list[bytes]]:
         """The status and the texts that come for a question. Raises TimeoutError where they come too late, and EOFError where none do."""
         deadline = time.monotonic() + seconds
+        self._spent = time.monotonic() + (processor or math.inf)  # before that it has not had its processor time
         self.send(number, b"%d %d %d" % (kind, min(math.ceil(seconds) + _GRACE, _MOST_ALARM), processor), *files)
         while not (answers := self.answers()):
             left = deadline - time.monotonic()

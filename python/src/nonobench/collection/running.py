@@ -74,8 +74,8 @@ def main(words: Optional[list[str]] = None) -> int:
     hold_streams()
     Stopped.is_held, Stopped.came, Output.until = False, 0, math.inf
     try:
-        for number in (signal.SIGINT, signal.SIGTERM):
-            signal.signal(number, _stop)
+        for number, handler in ((signal.SIGINT, _stop), (signal.SIGTERM, _stop), (signal.SIGCHLD, signal.SIG_DFL)):
+            signal.signal(number, handler)
         try:
             options = options_of(sys.argv[1:] if words is None else words)
             return Run(options).merge() if options.is_merge else Run(options).audit()
