@@ -8,14 +8,15 @@ const circle = (colour, x, y, r) => ({ colour, has: (a, b) => (a - x) ** 2 + (b 
 const oval = (colour, x, y, rx, ry) => ({ colour, has: (a, b) => ((a - x) / rx) ** 2 + ((b - y) / ry) ** 2 <= 1 });
 const box = (colour, left, top, right, bottom) => ({ colour, has: (a, b) => a >= left && a < right && b >= top && b < bottom });
 const ring = (colour, x, y, r, wide) => ({ colour, has: (a, b) => Math.abs(Math.hypot(a - x, b - y) - r) <= wide / 2 });
-// Corners in turn: a point is inside where a ray from it crosses an odd number of sides.
-const shape = (colour, ...corners) => ({
-    colour,
-    has: (a, b) => corners.reduce((inside, [x, y], at) => {
+// Corners in turn: a point is inside where a ray from it crosses an odd number of sides. Most points lie outside of the box around it.
+const shape = (colour, ...corners) => {
+    const [left, top, right, bottom] = [Math.min, Math.max].flatMap((most) => [0, 1].map((axis) => most(...corners.map((corner) => corner[axis]))));
+    const isInside = (a, b) => corners.reduce((inside, [x, y], at) => {
         const [u, v] = corners[(at + 1) % corners.length];
         return (y > b) !== (v > b) && a < x + ((u - x) * (b - y)) / (v - y) ? !inside : inside;
-    }, false),
-});
+    }, false);
+    return { colour, has: (a, b) => a >= left && a <= right && b >= top && b <= bottom && isInside(a, b) };
+};
 const line = (colour, x, y, u, v, wide) => {
     const [dx, dy] = [((v - y) * wide) / 2 / Math.hypot(u - x, v - y), (-(u - x) * wide) / 2 / Math.hypot(u - x, v - y)];
     return shape(colour, [x + dx, y + dy], [u + dx, v + dy], [u - dx, v - dy], [x - dx, y - dy]);
@@ -66,12 +67,21 @@ function drawnAnew([ground, ...shapes], side) {
         for (let row = 0, at = 0; row < wide; row++) for (let col = 0; col < wide; col++, at++) if (one.has(places[col], places[row])) samples[at] = number;
     }
     const data = new Uint8ClampedArray(side * side * 4);
+    const counts = Array(inks.length).fill(0);
     for (let at = 0; at < side * side; at++) {
         const first = Math.floor(at / side) * SAMPLES * wide + (at % side) * SAMPLES;
-        const met = Array.from({ length: SAMPLES * SAMPLES }, (_, sample) => triples[samples[first + Math.floor(sample / SAMPLES) * wide + (sample % SAMPLES)]]).filter(Boolean);
-        if (met.length) data.set([0, 1, 2].map((axis) => Math.round(met.reduce((sum, triple) => sum + triple[axis], 0) / met.length)), at * 4);
-        data[at * 4 + 3] = Math.round((met.length * 255) / SAMPLES ** 2);
+        const sums = [0, 0, 0];
+        let met = 0;
+        for (let sample = 0; sample < SAMPLES * SAMPLES; sample++) {
+            const number = samples[first + Math.floor(sample / SAMPLES) * wide + (sample % SAMPLES)];
+            counts[number]++;
+            if (!triples[number]) continue;
+            met++;
+            for (let axis = 0; axis < 3; axis++) sums[axis] += triples[number][axis];
+        }
+        for (let axis = 0; met && axis < 3; axis++) data[at * 4 + axis] = Math.round(sums[axis] / met);
+        data[at * 4 + 3] = Math.round((met * 255) / SAMPLES ** 2);
     }
-    const shares = inks.map((ink, number) => [ink === 'clear' ? ink : INK[ink], samples.reduce((sum, one) => sum + (one === number), 0) / samples.length]);
+    const shares = inks.map((ink, number) => [ink === 'clear' ? ink : INK[ink], counts[number] / samples.length]);
     return { image: { width: side, height: side, data }, shares: new Map(shares) };
 }
