@@ -4,6 +4,7 @@ import assert from 'node:assert/strict';
 import { test } from 'node:test';
 import { cluesOf } from '../../page/test/clues.mjs';
 import '../../page/test/limits.mjs';
+import { long } from '../waits.mjs';
 
 const { entryOf, legendOf, SHEET_TEXTS } = await import('../../page/export/entries.js');
 const { inksOf } = await import('../../page/formats/webpbn.js');
@@ -23,6 +24,8 @@ const sheets = (docs, more = {}) => sheetsWith(docs.map((doc) => ({ doc, clues: 
 // The texts of a drawing with their places, and its rectangles.
 const textsOf = ({ svg }) => [...svg.matchAll(/<text ([^>]*)>([^<]*)<\/text>/g)].map(([, words, text]) => ({ text, ...wordsOf(words) }));
 const rectsOf = ({ svg }) => [...svg.matchAll(/<rect ([^>]*)\/>/g)].map(([, words]) => wordsOf(words));
+// Of many elements their numbers alone, which takes a fraction of the time.
+const placesOf = ({ svg }, kind, names) => svg.split(`<${kind} `).slice(1).map((words) => names.map((name) => Number(` ${words}`.split(` ${name}="`, 2)[1].split('"', 1)[0])));
 const wordsOf = (words) => Object.fromEntries([...words.matchAll(/([\w-]+)="([^"]*)"/g)].map(([, name, value]) => [name, Number.isNaN(Number(value)) ? value : Number(value)]));
 const digitsOf = (sheet) => textsOf(sheet).filter(({ text }) => /^\d+[a-o■●▲▼★]?$/.test(text)).map(({ text }) => text);
 
@@ -222,12 +225,14 @@ test('several puzzles a sheet, and the solutions at the end', () => {
 
 test('nothing stands outside the margins, on any paper, with any number of puzzles', () => {
     const wide = docOf(Array.from({ length: 40 }, (_, row) => 'a.b.'.repeat(15).slice(row % 4) + 'a'.repeat(row % 4)), [[255, 255, 255], [0, 0, 0], [230, 40, 40]], { about: { title: 'A title that is rather long for a sheet of a small book, with many words in it', author: 'Somebody' } });
-    for (const paper of Object.keys(PAPERS)) for (const isWide of [false, true]) for (const perSheet of [1, 2, 4, 6]) for (const margin of [5, 20]) {
+    for (const paper of Object.keys(PAPERS)) for (const isWide of [false, true]) for (const perSheet of [1, 2, 4, 6]) for (const margin of long ? [isWide ? 20 : 5] : [5, 20]) {
         for (const sheet of sheets([wide, CROSS, wide], { paper, isWide, perSheet, margin, show: 'letters', answers: true })) {
             const [width, height] = isWide ? [...PAPERS[paper]].reverse() : PAPERS[paper];
             const where = `${paper} ${isWide} ${perSheet} ${margin}`;
-            for (const { x, y, width: w, height: h } of rectsOf(sheet).slice(1)) assert.ok(x >= margin - 0.2 && y >= margin - 0.2 && x + w <= width - margin + 0.2 && y + h <= height - margin + 0.2, `${where}: ${[x, y, w, h]}`);
-            for (const { x, y, text } of textsOf(sheet)) assert.ok(x >= margin - 0.2 && y >= margin && x <= width - margin && y <= height - margin + 0.2, `${where}: ${text} at ${x}, ${y}`);
+            const isOut = ([x, y, w, h]) => !(x >= margin - 0.2 && y >= margin - 0.2 && x + w <= width - margin + 0.2 && y + h <= height - margin + 0.2);
+            assert.deepEqual(placesOf(sheet, 'rect', ['x', 'y', 'width', 'height']).slice(1).filter(isOut), [], where);
+            const isTextOut = ([x, y]) => !(x >= margin - 0.2 && y >= margin && x <= width - margin && y <= height - margin + 0.2);
+            assert.deepEqual(placesOf(sheet, 'text', ['x', 'y']).filter(isTextOut), [], where);
         }
     }
 });
