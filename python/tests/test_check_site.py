@@ -564,7 +564,7 @@ def test_a_check_has_so_much_processor_time(site, checked, monkeypatch):
     assert checked("site", "--seconds", PATIENCE, "--processor", "1") == (1, ["site/one.cert: no answer within its processor time"])
 
 
-@pytest.mark.parametrize("way", ("as it is", "ignored", "blocked"))
+@pytest.mark.parametrize("way", ("as it is", *(pytest.param(way, marks=pytest.mark.all) for way in ("ignored", "blocked"))))
 def test_a_worker_ends_a_call_by_its_processor_time(way):
     """Whatever the program that starts it does with the signals that end it."""
     ends = {signal.SIGALRM, signal.SIGXCPU}

@@ -1,5 +1,5 @@
 // Tests of the page's limits: how many bytes the build lets it have, how soon it is ready on a slow processor, and which part of the
-// window the picture has. The page is the one of PAGE, else that of web/out; the parts that lack a tool are left out.
+// window the picture has, in a browser. The page is the one of PAGE, else that of web/out; the parts that lack a tool are left out.
 // Run: node --test tests/page/page_limit.mjs
 import assert from 'node:assert/strict';
 import { spawnSync } from 'node:child_process';
@@ -10,6 +10,7 @@ import { join } from 'node:path';
 import test from 'node:test';
 import { fileURLToPath, pathToFileURL } from 'node:url';
 import { Browser } from './page_browser.mjs';
+import { long } from '../waits.mjs';
 
 const ROOT = fileURLToPath(new URL('../..', import.meta.url));
 const PAGE = process.env.PAGE ?? join(ROOT, 'web', 'out', 'nonobench.html');
@@ -64,7 +65,7 @@ async function readyAfter(browser, address) {
     }
 }
 
-const missing = (!isThere(process.env.CHROMIUM ?? 'chromium') && 'there is no Chromium') || (!existsSync(PAGE) && `there is no page at ${PAGE}`);
+const missing = long || (!isThere(process.env.CHROMIUM ?? 'chromium') && 'there is no Chromium') || (!existsSync(PAGE) && `there is no page at ${PAGE}`);
 test(`ready within ${MOST_MS} ms on a processor slowed ${SLOWED} times`, { skip: missing }, async (t) => {
     const browser = new Browser();
     try {

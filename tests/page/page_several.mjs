@@ -19,7 +19,7 @@ import { Cutting, rowsOfSprites } from '../../page/import/cutting.js';
 import { unitsIn } from '../../page/import/folders.js';
 import { docOfNon } from '../../page/import/reading.js';
 import { docByItself, proposalFor } from '../../page/import/proposing.js';
-import { waits } from '../waits.mjs';
+import { long, waits } from '../waits.mjs';
 
 const bytesFrom = (base64) => new Uint8Array(Buffer.from(base64, 'base64'));
 const read = (path) => readFileSync(new URL(`../../${path}`, import.meta.url));
@@ -235,7 +235,7 @@ test('where the user stops, no puzzle of the file or archive is searched for any
     assert.deepEqual([archive.found.docs, archive.found.unread, archive.begun.length], [[], ['a.xml'], 4]);
 });
 
-test('2,000 pictures of clues are searched for at the most', async () => {
+test('2,000 pictures of clues are searched for at the most', { skip: long }, async () => {
     const most = { goesOn: async () => true, held: (engine) => engine };
     const files = [fileOf('a.xml', cluesOf(1500)), fileOf('b.ppm', TWO_WAYS), fileOf('c.xml', cluesOf(600)), fileOf('d.ppm', TWO_WAYS)];
     const { found, begun } = await searched(async () => {
@@ -309,7 +309,7 @@ test('folders of many files: none is cut off from its picture', async () => {
     assert.ok(units.every(({ file, givens }) => givens.name === file.name.replace('ppm', 'givens')));
 });
 
-test('a folder of 140,000 files, or with as many folders in it: 2,000 of them are looked at, and it can be stopped', async () => {
+test('a folder of 140,000 files, or with as many folders in it: 2,000 of them are looked at, and it can be stopped', { skip: long }, async () => {
     let looked = 0;
     const folder = (name, entries) => ({ name, isFile: false, isDirectory: true, createReader: () => ({ readEntries: (take) => { looked++; take(entries.splice(0)); } }) });
     const several = (make) => Array.from({ length: 140000 }, (_, at) => make(String(at).padStart(6, '0')));
