@@ -256,7 +256,7 @@ def clean(words, cwd=None, before=None, **env):
 def node_tests(request, file, env):
     """Runs a file of tests in node; what it leaves out is told in the end."""
     needs('node')
-    said = passes(['node', '--test', '--test-reporter=tap', file], env=env)
+    said = passes(['node', '--test-reporter=tap', file], env=env)  # without --test, which would run it in a process of its own
     assert re.search(r'(?m)^# pass [1-9]|^# skipped [1-9]', said), 'it has no tests'
     for why in re.findall(r'(?m)^ *ok .* # SKIP (.+)$', said):
         request.node.user_properties.append(('left out', why))
