@@ -1,7 +1,7 @@
 //! Puzzles that are settled and searched.
 //!
 //! `settle ENGINE AGENDA PUZZLE` prints the evaluations and the facts, or `dead`. `first PUZZLE` prints a picture with the clues or
-//! `none`, and `turns EVALUATIONS CONFLICTS ROUNDS PUZZLE` the same within these bounds. `parts FACTS` prints the cells of each
+//! `none`, and `turns EVALUATIONS CONFLICTS PUZZLE` the same within these bounds. `parts FACTS` prints the cells of each
 //! part, numbered from 1. `judge PICTURE [ALLOWANCE]` judges a picture by its parts, and once more under no allowance;
 //! `cost PICTURE ALLOWANCE` also prints the evaluations. `within SPLITS AGAIN WINDOW CONFLICTS FIRST PICTURE` decides the parts
 //! within these `Bounds`, and makes a certificate within the same bounds.
@@ -34,8 +34,8 @@ fn told_of(alloc: Global, words: &[&str]) -> Result<String> {
     match words {
         ["settle", engine, agenda, puzzle] => settle_text(alloc, engine, agenda, puzzle),
         ["first", puzzle] => first_text(alloc, TURNS, puzzle),
-        ["turns", evaluations, conflicts, rounds, puzzle] => {
-            first_text(alloc, turns_in(evaluations, conflicts, rounds)?, puzzle)
+        ["turns", evaluations, conflicts, puzzle] => {
+            first_text(alloc, turns_in(evaluations, conflicts)?, puzzle)
         }
         ["parts", facts] => parts(alloc, &facts_in(alloc, facts)?),
         ["judge", picture] => judge_text(alloc, picture, None, false),
@@ -82,11 +82,10 @@ fn bounds_in(
     })
 }
 
-fn turns_in(evaluations: &str, conflicts: &str, rounds: &str) -> Result<Turns> {
+fn turns_in(evaluations: &str, conflicts: &str) -> Result<Turns> {
     Ok(Turns {
         evaluations: evaluations.parse().context("the evaluations")?,
         conflicts: conflicts.parse().context("the conflicts")?,
-        rounds: rounds.parse().context("the rounds")?,
     })
 }
 
