@@ -259,7 +259,7 @@ def test_what_lies_beside_a_picture_is_bounded_as_a_picture_is(site, checked):
 
 
 def test_each_certificate_is_of_one_picture(site, checked, tmp_path):
-    """NAME.cert is of NAME.ppm where that is there, and else of NAME, beside the pictures and in a folder of their own."""
+    """NAME.cert is of NAME.ppm where that is there, and else of NAME; in a folder of their own first of NAME, as for an audit."""
     own = tmp_path / "own"
     for place in (site, own):
         pair(place, "one", None)
@@ -267,8 +267,9 @@ def test_each_certificate_is_of_one_picture(site, checked, tmp_path):
     pair(site, "one", certificate=None)
     pair(site, "one.ppm", CROSS, None, **{"ppm.givens": "given 1 1\n"})
     assert checked("site") == (0, [])
-    assert checked("site", "--certificates", "own") == (0, [])
-    assert checked("site", "--certificates", "own", "--untrusted") == (1, ["own/one.ppm.cert: certificate UnpublishedGiven at line 2"])
+    assert checked("site", "--certificates", "own") == (1, ["own/one.ppm.cert: certificate UnpublishedGiven at line 2"])
+    found = {Path(one.path).name: [Path(way).name for _, way in one.beside] for one in finding.find(["site"], finding.Places("own"))}
+    assert found == {"one.ppm": ["one.ppm.cert"], "one.ppm.ppm": []}
     (own / "one.ppm.cert").rename(own / "one.ppm.ppm.cert")
     assert checked("site", "--certificates", "own") == (0, [])
     # One after the whole name is read beside its picture, too.
@@ -475,7 +476,7 @@ def test_a_certificate_is_of_the_picture_with_its_name(site, checked, tmp_path, 
     # The last two pictures (of a chain of names) have one certificate, which is right for one of them alone.
     (tmp_path / "own").mkdir()
     for name in names:
-        pair(tmp_path / "own" if apart else site, name, None, DIAGONAL_CERT)
+        pair(tmp_path / "own" if apart else site, f"{name}.ppm" if apart else name, None, DIAGONAL_CERT)
         pair(site, name, DIAGONAL, None)
     words = ["site", "--untrusted", *(["--certificates", "own"] if apart else [])]
     assert checked(*words) == (0, [])
@@ -498,7 +499,7 @@ def test_a_name_with_nothing_before_its_ending_is_told(site, checked, name):
 @pytest.mark.parametrize("apart", (False, True))
 def test_a_picture_that_no_certificate_is_of_is_told(site, capsys, tmp_path, apart):
     """NAME.cert is of NAME.ppm where that is there, else of NAME: each other picture is told, whatever its name, in one share."""
-    for name in ("a", "a.ppm", "b.ppm", "in/c"):
+    for name in ("a", "a.ppm.ppm" if apart else "a.ppm", "b.ppm", "in/c"):
         pair(tmp_path / "own" if apart else site, name, None)
     for name in ("a", "a.ppm", "b", "in/c"):
         pair(site, name, certificate=None)
