@@ -134,6 +134,26 @@ def test_what_cannot_be_removed_is_told_and_stays_in_the_list(archive, is_update
     assert not (prefix / 'bin').exists() and files(prefix) == []
 
 
+def tool(tmp_path, name, text):
+    """A search path on which a tool comes first that does something else."""
+    write(tmp_path / 'tools' / name, f'#!/bin/sh\n{text}\n', 0o755)
+    return f'{tmp_path}/tools:/usr/bin:/bin'
+
+
+def test_what_cannot_be_listed_stays(archive, tmp_path):
+    run(archive / 'install', '--prefix', tmp_path / 'to')
+    there = files(tmp_path / 'to')
+    status, out, _ = run(tmp_path / 'to/share/nonobench/install', '--uninstall', PATH=tool(tmp_path, 'grep', 'exit 2'))
+    assert (status != 0, out, files(tmp_path / 'to')) == (True, '', there)
+
+
+def test_no_temporary_folder_stays_after_a_signal(archive, tmp_path):
+    (tmp_path / 'temporary').mkdir()
+    path = tool(tmp_path, 'cp', 'kill -TERM $PPID')
+    status, _, _ = run(archive / 'install', '--prefix', tmp_path / 'to', PATH=path, TMPDIR=str(tmp_path / 'temporary'))
+    assert (status, os.listdir(tmp_path / 'temporary')) == (130, [])
+
+
 def test_halves_go_too_and_what_is_not_ours_stays(archive, tmp_path):
     prefix, mine = tmp_path / 'prefix', 'lib/nonobench/mine/__pycache__/keep.txt'
     assert run(archive / 'install', '--prefix', prefix)[0] == 0
