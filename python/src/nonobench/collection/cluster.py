@@ -65,7 +65,8 @@ class Cluster:
         packs = _packs(tasks, self._settings)
         flying: deque[tuple[Any, list[Answer]]] = deque()  # what is being judged, with the answers of files that are not
         while True:
-            for pack, told in itertools.islice(packs, max(0, self._room() - len(flying))):
+            room = 4 + 2 * sum(self._client.nthreads().values()) - len(flying)  # some packs for each thread of the workers that are there now
+            for pack, told in itertools.islice(packs, max(0, room)):
                 words = version(), tuple(self._settings), self._seconds, zlib.compress(marshal.dumps([tuple(task) for task in pack]), 1)
                 flying.append((self._client.submit(judge_pack, *words, retries=RETRIES, pure=False), told))
             if not flying:
@@ -80,11 +81,6 @@ class Cluster:
         """Lets the scheduler go; what it was still to judge is forgotten."""
         if self._client is not None:
             self._client.close(timeout=2)
-
-    def _room(self) -> int:
-        """How many packs are out at once: some for each thread of the workers that are there now."""
-        threads: dict[str, int] = self._client.nthreads()
-        return 4 + 2 * sum(threads.values())
 
     def _result(self, future: Any, told: list[Answer]) -> Optional[list[Answer]]:
         """The answers of a pack in order, where they are there within a moment."""

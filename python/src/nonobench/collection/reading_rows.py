@@ -16,7 +16,7 @@ MOST_SECONDS = 1e9
 def checked_row(line: bytes) -> Row:
     """The row of a line. A ValueError says what is wrong with it."""
     try:
-        row = json.loads(line, object_pairs_hook=_object, parse_constant=_no_number)
+        row = json.loads(line, object_pairs_hook=_object, parse_constant=lambda word: _need(False, f"{word} is no number"))
     except RecursionError:
         raise ValueError("it is nested too deeply") from None
     except UnicodeDecodeError:
@@ -42,10 +42,6 @@ def _object(pairs: list[tuple[str, Any]]) -> dict[str, Any]:
     made = dict(pairs)
     _need(len(made) == len(pairs), "it has a field twice")
     return made
-
-
-def _no_number(word: str) -> None:
-    raise ValueError(f"{word} is no number")
 
 
 def _compare(row: Row) -> None:
