@@ -12,6 +12,8 @@ from pathlib import Path
 PATIENCE = 300  # seconds after which what is waited for counts as what does not come
 # Processes of a run that names no other number: each costs more than most tests ask of it.
 JOBS = "1" if os.environ.get("SHORT") else "2"
+# For those of many runs: `make check` says why it leaves them out.
+takes_long = unittest.skipIf(os.environ.get("SHORT"), os.environ.get("SHORT"))
 ROOT = Path(__file__).resolve().parent.parent.parent
 WHITE, BLACK, RED = (255, 255, 255), (0, 0, 0), (255, 0, 0)
 TRIPLES = {".": WHITE, "a": BLACK, "b": RED}

@@ -25,7 +25,8 @@ from pathlib import Path
 
 sys.path.insert(0, str(Path(__file__).resolve().parent))
 from audit_parts import (  # noqa: E402
-    ALL_LEMMAS, AMBIGUOUS, BLACK, CERT, GIVEN_CERT, GIVEN_LEMMAS, LEMMAS, OTHER, PATIENCE, RED, ROOT, UNIQUE, WHITE, Case, chequered, eventually, p3, webpbn,
+    ALL_LEMMAS, AMBIGUOUS, BLACK, CERT, GIVEN_CERT, GIVEN_LEMMAS, LEMMAS, OTHER, PATIENCE, RED, ROOT, UNIQUE, WHITE, Case, chequered, eventually, p3, takes_long,
+    webpbn,
 )
 
 import nonobench  # noqa: E402
@@ -831,6 +832,7 @@ class Running(Case):
         self.assertEqual(self.rows("site", "--ppm", "out", status=3)["site/in/one.ppm"].get("note"), "its picture was not written: Not a directory")
         self.assertEqual({place.name: place.read_bytes() for place in (self.site / "in").iterdir()}, {"one.ppm": p3(UNIQUE)})
 
+    @takes_long
     def test_certificates_are_not_written_beside_other_puzzles(self):
         """They would be read as theirs; beside their own, and where there are no puzzles, they may lie below a path."""
         self.put("a.ppm", p3(UNIQUE))
@@ -1191,6 +1193,7 @@ class Running(Case):
         # Each has a name of its own, since the two differ in their suffix alone.
         self.assertEqual([place.name for place in (self.folder / "certs").glob("DUCK*")], ["DUCK.PNG.cert"])
 
+    @takes_long
     def test_paths_that_a_search_leaves_out(self):
         self.put("one.ppm", p3(UNIQUE))
         for name in (".drafts/two.ppm", "in/.two.ppm", "in/two.txt", "in/one.ppm"):
@@ -1218,6 +1221,7 @@ class Running(Case):
             self.assertIn(f"{path!r} goes back behind a link: name {told!r}", self.run_audit(path, status=2).stderr)
         self.assertEqual(list(self.rows("site/in/../in/deep/../one.ppm", "link/./two.ppm", status=1)), ["link/two.ppm", "site/in/one.ppm"])
 
+    @takes_long
     def test_folders_are_no_puzzles(self):
         """A folder that is called like a puzzle changes nothing of what certificates are called."""
         self.put("set.xml", "<puzzleset>" + webpbn(UNIQUE) + webpbn(UNIQUE) + "</puzzleset>")
@@ -1655,6 +1659,7 @@ class Again(Case):
         self.run_audit("merge", *map(str, range(at + 1)), "--jsonl", "merged", status=0)
         self.assertEqual(sorted(self.read("merged")), sorted({"site/one.ppm", str(one), f"/{one}", f"../{self.folder.name}/site/one.ppm"}))
 
+    @takes_long
     def test_resume_minds_options_and_limits(self):
         self.put("one.ppm", p3(UNIQUE))
         self.put("hard.ppm", p3_of_letters(chequered(60, 4)))
@@ -1684,6 +1689,7 @@ class Again(Case):
             self.assertEqual(done.stderr, "nonobench-audit: notes: its last line is not a row of an audit\n")
             self.assertEqual((self.folder / "notes").read_text(), text)
 
+    @takes_long
     def test_resume_checks_certificates_again(self):
         """Whatever a kept row of a unique puzzle says, its puzzle and its certificate bear it out, or it is made again."""
         self.put("one.ppm", p3(UNIQUE))
@@ -1723,6 +1729,7 @@ class Again(Case):
                 (self.folder / "certs" / "two.cert").unlink()
         self.assertEqual(nonobench.check(p3(UNIQUE), (self.folder / "certs" / "one.cert").read_bytes()).givens, ())
 
+    @takes_long
     def test_resume_checks_that_no_puzzle_is_hidden(self):
         self.put("set.xml", "<puzzleset>" + webpbn(UNIQUE) + webpbn(AMBIGUOUS) + "</puzzleset>")
         words = ["site", "--allow", "9", "--certify", "certs", "--jsonl", "rows.jsonl", "--resume"]

@@ -31,7 +31,7 @@ from pathlib import Path
 from types import SimpleNamespace
 
 sys.path.insert(0, str(Path(__file__).resolve().parent))
-from audit_parts import AMBIGUOUS, CERT, PATIENCE, ROOT, UNIQUE, Case, chequered, eventually, p3, webpbn  # noqa: E402
+from audit_parts import AMBIGUOUS, CERT, PATIENCE, ROOT, UNIQUE, Case, chequered, eventually, p3, takes_long, webpbn  # noqa: E402
 from odd_images import BITS, FRAMES, GAMMA, SMALL, odd_images  # noqa: E402
 from processes import children, seen  # noqa: E402
 from test_audit import p3_of_letters  # noqa: E402
@@ -381,6 +381,7 @@ class Strangers(Case):
             "one.ppm": "more than 16777216 bytes", "three.ppm": "its givens: more than 16777216 bytes", "two.ppm": "its certificate: more than 16777216 bytes",
         })
 
+    @takes_long
     def test_no_links_in_the_operators_folders(self):
         self.put("one.ppm", p3(UNIQUE))
         self.put("sub/two.ppm", p3(UNIQUE))
@@ -406,6 +407,7 @@ class Strangers(Case):
         for paths in (["site"], ["site", "site/one.ppm"], ["site", "./site/"]):  # the same files, and thus the same place
             self.assertEqual(self.rows_of(*paths, "--givens", "mine", "--untrusted")["one.ppm"]["givens"], [[1, 1]])
 
+    @takes_long
     def test_strangers_do_not_say_whose_givens_are_the_operators(self):
         """Beside puzzles `one.ppm.givens` is that of a puzzle `one.ppm.png`. In a folder of their own, names alone tell."""
         self.put("one.ppm", p3(AMBIGUOUS))
@@ -515,6 +517,7 @@ class Strangers(Case):
         mine.mkdir()
         self.assertEqual(next(found).givens, str(mine / "b") + "/")
 
+    @takes_long
     def test_a_run_whose_operators_folder_changes_is_an_error(self):
         """What comes, goes or is written in it meanwhile is told in the end; what the run itself writes is no change."""
         mine, aside = self.folder / "mine", self.folder / "aside"
@@ -907,6 +910,7 @@ class Names(Case):
         self.assertEqual(sorted(os.listdir(self.folder / "out")), ["SET.3.cert", "SET.3.ppm", "one.cert", "one.ppm"])
         self.assertEqual((self.folder / "out" / "SET.3.ppm").read_bytes(), p3(UNIQUE[::-1]))
 
+    @takes_long
     def test_paths_whose_puzzles_would_be_called_alike(self):
         for name in ("x/SET.xml", "x2/SET.xml", "y/SET.2.xml"):
             self.put(name, "<puzzleset>" + webpbn(UNIQUE) * 3 + "</puzzleset>")
@@ -1570,6 +1574,7 @@ class Processes(Case):
         words = ["site", "--seconds", str(PATIENCE), "--jsonl", "rows", *words]
         return self.by_script(['shift 4', 'set -- -I -c "$(cat begins)" "$@"'], *words)
 
+    @takes_long
     def test_files_that_end_each_process_at_once(self):
         """The files before them have their rows, though their answers had not gone out by then."""
         for at in range(30):
@@ -1722,6 +1727,7 @@ class Processes(Case):
         self.assertEqual([row["verdict"] for row in rows.values()], ["unique", "undecided", "ambiguous", "undecided"])
         self.assertEqual([row.get("more", False) for row in rows.values()], [True, True, True, False])
 
+    @takes_long
     def test_a_set_whose_reading_takes_longer_than_a_puzzle_may(self):
         """Those behind a late puzzle are judged, too, however long it takes to come to them again."""
         hard = "".join(f"|{row}|".replace("a", "X").replace("b", "r") for row in chequered(60, 3))
