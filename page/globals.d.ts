@@ -14,7 +14,3 @@ declare var HAS_TEXTS_APART: boolean | undefined;
 type NameOf<Inside extends string> = Inside extends `${infer Name}|${string}` ? Name : Inside;
 type HolesOf<Text extends string> = Text extends `${string}{${infer Inside}}${infer Rest}` ? NameOf<Inside> | HolesOf<Rest> : never;
 type ValuesOf<Text extends string> = [HolesOf<Text>] extends [never] ? [] : [{ [name in HolesOf<Text>]: string | number }];
-
-// The texts of another language, where they have the names and places of the first; else never.
-type Unlike<One, Other> = { [Name in keyof One | keyof Other]: Name extends keyof One & keyof Other ? ([HolesOf<One[Name] & string>, HolesOf<Other[Name] & string>] extends [HolesOf<Other[Name] & string>, HolesOf<One[Name] & string>] ? never : Name) : Name }[keyof One | keyof Other];
-type SameTexts<One, Other> = [Unlike<One, Other>] extends [never] ? Other : { unlike: Unlike<One, Other> };

@@ -17,12 +17,12 @@ export { DIRECTION, LANGUAGE };
  */
 
 /**
- * The tables of all languages: `tsc -p page` refuses one whose names or places are not those of English.
- * @type {{ en: typeof EN, de: SameTexts<typeof EN, typeof DE>, fr: SameTexts<typeof EN, typeof FR> }}
+ * The tables of all languages: `tsc -p page` refuses one that lacks a text.
+ * @type {Record<string, Record<Phrase, string>>}
  */
 const TABLES = { en: EN, de: DE, fr: FR };
 
-/** @type {() => typeof EN} */
+/** @type {() => Record<Phrase, string>} */
 const tableOfPage = () => JSON.parse((document.querySelector(`[data-texts="${LANGUAGE}"]`) ?? document.querySelector('[data-texts="en"]')).textContent);
 
 // The build (web/join.mjs) leaves the tables out of the script, and puts them beside it.
