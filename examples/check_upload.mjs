@@ -7,7 +7,7 @@
 // It uses the npm package nonobench where that is installed, so a site can copy this file. Otherwise it uses what web/build
 // makes in the checkout; WASM is the path of nonobench.wasm if it is not in web/out.
 // Exits with status 0 if the pair is accepted, 1 if it is refused or takes too long, 2 for bad arguments, and 3 if a file
-// or the module cannot be read, or the answer cannot be written.
+// or the module cannot be read, or the answer cannot be written; for a closed output, node opens /dev/null.
 import { constants } from 'node:fs';
 import { open, readFile } from 'node:fs/promises';
 import { Worker, isMainThread, parentPort, workerData } from 'node:worker_threads';

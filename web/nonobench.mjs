@@ -72,9 +72,8 @@ function backgroundOf(options) {
 
 // Whether a file is a .non text: a line of it begins with a word of that format, and it does not begin as a picture does.
 function isNon(bytes) {
-  if (bytes[0] === 0x50) return false;
   const front = decoder.decode(bytes.subarray(0, ROOM));
-  return /^[ \t]*(?:width|height|rows|columns|goal|catalogue|title)\b/m.test(front);
+  return !/^P3(?:\s|#)/.test(front) && /^[ \t]*(?:width|height|rows|columns|goal|catalogue|title)\b/m.test(front);
 }
 
 const NONE = new Uint8Array(0);

@@ -74,6 +74,7 @@ test('what files, options and words are refused, and how it is said', async () =
     assert.deepEqual(faultOf(() => engine.open(PUZZLE, { format })), ['open', 'format must be ppm or non']);
   }
   assert.equal(engine.open(PUZZLE, { format: null }).say('verdict\n'), engine.open(PUZZLE, { format: 'non' }).say('verdict\n'));
+  assert.equal(engine.open(`Puzzle by Ann\n${PUZZLE}`).say('clues\n'), engine.open(PUZZLE).say('clues\n'));
   for (const history of [0, 1001, 1.5, NaN, '5']) {
     assert.deepEqual(faultOf(() => engine.open(DIAGONAL, { history })), ['open', 'history must be 1 to 1000']);
   }
