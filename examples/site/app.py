@@ -484,9 +484,8 @@ def main():
     listen = os.environ.get("SITE_LISTEN", "127.0.0.1:5000")
     logging.getLogger("waitress.queue").setLevel(logging.ERROR)
     server = waitress.create_server(
-        app, listen=listen, threads=8, connection_limit=1000, asyncore_use_poll=True,
-        channel_timeout=30, max_request_header_size=1 << 13, max_request_body_size=2 * app.config["MAX_CONTENT_LENGTH"],
-        inbuf_overflow=1 << 16, ident=None,
+        app, listen=listen, threads=8, connection_limit=1000, asyncore_use_poll=True, channel_timeout=30, max_request_header_size=1 << 13,
+        max_request_body_size=2 * app.config["MAX_CONTENT_LENGTH"], inbuf_overflow=1 << 16, ident=None,
     )
     take_turns(server.task_dispatcher, app.config["WORKERS"])
     logging.basicConfig()

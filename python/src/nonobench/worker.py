@@ -111,9 +111,8 @@ class _Process(Child):
         super().__init__("_serve", memory, ("-S", "-B"), cwd="/", start_new_session=True)
 
     def why(self) -> Exception:
-        """What is told of a process that ended in the middle of a question: by status 1 Python tells what its program raised. Where
-        SIGCHLD is ignored, or another part of the program waits for all that end, its status is lost, and seems to be 0.
-        """
+        """What is told of a process that ended in the middle of a question: by status 1 Python tells what its program raised. Its status
+        seems to be 0 where it is lost: SIGCHLD is ignored, or another part of the program waits for all that end."""
         if self.is_stopped:
             return RuntimeError("the worker was closed while it was asked")
         has_begun, status = self.has_begun(), self.status()

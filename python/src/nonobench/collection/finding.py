@@ -311,8 +311,7 @@ def pictures_in(way: str, front: str, places: Places) -> Folder:
 def picture_of(folder: Folder, called: str) -> Found:
     """The picture that a site's certificate is for, or would be: NAME.ppm of NAME.cert, else NAME; apart NAME first, as for an audit."""
     short = f"{called}.ppm"
-    is_whole = _is_puzzle(folder, called) and (folder.is_held_apart or short not in folder.names)
-    return _found(folder, called if is_whole else short)
+    return _found(folder, called if _is_puzzle(folder, called) and (folder.is_held_apart or short not in folder.names) else short)
 
 
 def begin(*ways: Optional[str]) -> None:
