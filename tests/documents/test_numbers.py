@@ -25,7 +25,7 @@ AUDIT = 'python/src/nonobench/collection/arguments.py'
 SITE = 'python/src/nonobench/check_site.py'
 EXAMPLE = 'examples/site/app.py'
 UPLOAD = 'examples/check_upload.mjs'
-IMAGE = ('python/src/nonobench/_images.py', 'MOST_CELLS =')
+IMAGE = ('python/src/nonobench/_calls.py', 'MOST_CELLS =')
 FILES = ('python/src/nonobench/collection/puzzles.py', 'MOST_BYTES =')
 REDMEAN = 'crates/flaws/src/alike.rt'
 GRADE = 'crates/grade/src/word.rt'
@@ -118,7 +118,7 @@ STATED = [
     ('packages/npm/README.md', 'takes at most N by 120 cells', 1, [PICTURE]),
     ('packages/npm/README.md', 'by 120 cells in N colours', 1, [COLOURS]),
     ('packages/npm/README.md', 'the call returns status N', 1, [('web/within.h', 'OPTIONS ='), ('c/nonobench.h', 'NONOBENCH_OPTIONS =')]),
-    ('python/README.md', 'a triple of numbers from 0 to N', 1, [('python/src/nonobench/_calls.py', 'NO_TRIPLE =.* to')]),
+    ('python/README.md', 'a triple of numbers from 0 to N', 1, [('python/src/nonobench/_calls.py', 'MOST_SAMPLE =')]),
     ('examples/site/README.md', 'an image N by 120 pixels', 1, [IMAGE]),
     ('examples/site/README.md', 'N uploads are checked at once', 1, [(EXAMPLE, ' WORKERS=')]),
     ('examples/site/README.md', 'Above N connections one is closed', 1, [(EXAMPLE, 'MOST_OPEN =')]),
