@@ -352,8 +352,9 @@ class Interrupts(unittest.TestCase):
                 child = os.fork()
                 if child == 0:
                     try:
+                        is_new = worker._process is None  # before a call, which another thread may make at the same time
                         worker.verdict(TILE)
-                        is_good = worker._process.pid != pid and worker.clues(DIAGONAL) == nonobench.clues(DIAGONAL)
+                        is_good = is_new and worker._process.pid != pid and worker.clues(DIAGONAL) == nonobench.clues(DIAGONAL)
                         worker.close()
                         os._exit(0 if is_good else 1)
                     finally:

@@ -156,8 +156,7 @@ def picture_of(columns: int, rows: int, triples: Iterable[Colour], maxval: int =
             raise ValueError(f"{name} must be a whole number from 1 to {most}")
     if len(cells) != columns * rows or not all(0 <= sample <= maxval for cell in cells for sample in cell):
         raise ValueError(f"{columns} by {rows} cells need {columns * rows} colours up to {maxval}; not these {len(cells)}")
-    lines = [f"P3\n{columns} {rows}\n{maxval}", *(f"{red:d} {green:d} {blue:d}" for red, green, blue in cells)]
-    return ("\n".join(lines) + "\n").encode("ascii")
+    return "\n".join([f"P3\n{columns} {rows}\n{maxval}", *(f"{red:d} {green:d} {blue:d}" for red, green, blue in cells), ""]).encode("ascii")
 
 
 def bytes_of(file: Bytes) -> bytes:

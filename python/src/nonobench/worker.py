@@ -9,6 +9,7 @@ import signal
 import sys
 import threading
 import time
+import weakref
 from types import TracebackType
 from typing import Optional
 
@@ -56,10 +57,10 @@ class Worker(Questions):
             raise OSError(_NO_PYTHON.format(sys.executable))
         version()  # so that it is told here where there is no library
         self._begin()
+        _WORKERS.add(self)
 
     def _begin(self) -> None:
         """Begins without a process: also in a child that was forked, which must neither ask nor end its parent's."""
-        self._owner = os.getpid()
         self._lock = threading.RLock()  # a signal's handler may call while a call of its thread waits
         self._process: Optional[_Process] = None
         self._asked: Optional[_Process] = None
@@ -72,8 +73,6 @@ class Worker(Questions):
 
     def close(self) -> None:
         """Ends the process. The next call starts another one. In a signal's handler it ends the call that it interrupted: RuntimeError."""
-        if self._owner != os.getpid():
-            self._begin()
         with self._lock:
             process, self._process = self._process, None
             if process:
@@ -82,8 +81,6 @@ class Worker(Questions):
                 self._asked.stop()
 
     def _answer(self, kind: int, *files: bytes) -> tuple[int, list[bytes]]:
-        if self._owner != os.getpid():
-            self._begin()
         with self._lock:
             # The process is this call's alone until its answer has been read whole. Whatever is raised before, it never goes back.
             process, self._process, before = self._process, None, self._asked
@@ -102,6 +99,10 @@ class Worker(Questions):
                 self._asked = before
             self._process = process
             return answer
+
+_WORKERS: weakref.WeakSet[Worker] = weakref.WeakSet()
+if os.name != "nt":
+    os.register_at_fork(after_in_child=lambda: [worker._begin() for worker in _WORKERS])  # before a thread of the child can call
 
 
 class _Process(Child):
