@@ -492,7 +492,7 @@ class Running(Case):
 
     def test_formulas(self):
         """Full-width and small signs begin formulas, too."""
-        for title in ("=1", "+1", "-1", "@A1", "\uff1d1", "\uff0b1", "\uff0d1", "\uff20A1", "\ufe661", "\ufe621", "\ufe631", "\ufe6bA1", " =1"):
+        for title in ("=1", "+1", "-1", "@A1", "\uff1d1", "\uff0b1", "\uff0d1", "\uff20A1", "\ufe661", "\ufe621", "\ufe631", "\ufe6bA1", " =1", "=\u03381"):
             cells = csv_cells({"file": "one.ppm", "title": title})
             self.assertEqual(cells[2], "'" + printable(title))
         # Some spreadsheets take a semicolon for the end of a cell.

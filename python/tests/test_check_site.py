@@ -239,6 +239,14 @@ def test_backgrounds(site, checked):
     ])
 
 
+def test_pictures_whose_endings_are_in_capitals(site, checked):
+    pair(site, "big")
+    (site / "big.ppm").rename(site / "big.PPM")
+    assert checked("site", "--every-picture") == (0, [])
+    pair(site, "big")  # it is of the picture in small letters now
+    assert checked("site", "--every-picture") == (1, ["site/big.PPM: no certificate"])
+
+
 def test_what_lies_beside_a_picture_is_called_as_for_an_audit(site, checked):
     cells, filled = "P3 2 2 1 0 0 0 1 0 0 1 0 0 0 0 0\n", "nonocert 1\nline r 1\nline r 2\ndone\n"
     pair(site, "capitals", cells, filled, BACKGROUND="0,0,0")

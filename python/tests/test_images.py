@@ -3,6 +3,7 @@
 What each odd image shows is known from how it was made (odd_images.py). Where there are Chromium and Firefox, their canvases say the same. Pillow is needed.
 """
 
+import io
 import json
 import os
 import re
@@ -157,6 +158,17 @@ class Pictures(unittest.TestCase):
         for is_loose in (False, True):
             ImageFile.LOAD_TRUNCATED_IMAGES = is_loose
             self.assertRaises(nonobench.ImageFault, nonobench.picture_of_image, stopped)
+
+    def test_a_setting_that_unpacks_palettes_is_refused(self):
+        from PIL import GifImagePlugin, Image
+
+        image, made = Image.new("P", (2, 1)), io.BytesIO()
+        image.putpalette([value for colour in range(256) for value in (colour * 7 % 256, colour * 91 % 256, colour * 53 % 256)])
+        image.putdata([0, 1])
+        image.save(made, "GIF")
+        self.assertEqual(nonobench.picture_of_image(made.getvalue()), b"P3\n2 1\n255\n0 0 0\n7 91 53\n")
+        with unittest.mock.patch.object(GifImagePlugin, "LOADING_STRATEGY", GifImagePlugin.LoadingStrategy.RGB_ALWAYS):
+            self.assertRaisesRegex(nonobench.ImageFault, "LOADING_STRATEGY", nonobench.picture_of_image, made.getvalue())
 
 
 if __name__ == "__main__":

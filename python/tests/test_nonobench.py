@@ -265,7 +265,7 @@ class Answers(unittest.TestCase):
             nonobench.clues(b" " * 16777217)
         with self.assertRaisesRegex(PictureFault, "^ppm NotP3 at byte 0$"):
             nonobench.clues(b"")
-        for columns, rows, cell, maxval in ((2, 2, (0, 0, 0), 255), (1, 1, (0, 0, 256), 255), (1, 1, (0, -1, 0), 255), (1, 1, (4, 5, 70000), 65535)):
+        for columns, rows, cell, maxval in ((2, 2, (0, 0, 0), 255), (1, 1, (0, 0, 256), 255), (1, 1, (0, -1, 0), 255), (1, 1, (4, 5, 70000), 65535), (1, 1, (1, 2), 255), (1, 1, (1, 2, 3, 4), 255)):
             with self.subTest((columns, rows, cell)), self.assertRaisesRegex(ValueError, f"^{columns} by {rows} cells need "):
                 nonobench.picture_of(columns, rows, [cell], maxval)
         self.assertRaises(ValueError, nonobench.picture_of, 0, 5, [])

@@ -154,7 +154,7 @@ def picture_of(columns: int, rows: int, triples: Iterable[Colour], maxval: int =
     for name, value, most in (("columns", columns, MOST_CELLS), ("rows", rows, MOST_CELLS), ("maxval", maxval, MOST_SAMPLE)):
         if isinstance(value, bool) or not isinstance(value, SupportsIndex) or not 1 <= operator.index(value) <= most:
             raise ValueError(f"{name} must be a whole number from 1 to {most}")
-    if len(cells) != columns * rows or not all(0 <= sample <= maxval for cell in cells for sample in cell):
+    if len(cells) != columns * rows or not all(len(cell) == 3 and 0 <= min(cell) <= max(cell) <= maxval for cell in cells):
         raise ValueError(f"{columns} by {rows} cells need {columns * rows} colours up to {maxval}; not these {len(cells)}")
     return "\n".join([f"P3\n{columns} {rows}\n{maxval}", *(f"{red:d} {green:d} {blue:d}" for red, green, blue in cells), ""]).encode("ascii")
 

@@ -115,10 +115,10 @@ def _unpacked(kind: str, data: bytes) -> list[bytes]:
     """The pixels that Pillow unpacks, each as the bytes of its samples; of a palette, of its number."""
     from PIL import Image, ImageFile
 
-    _need(not ImageFile.LOAD_TRUNCATED_IMAGES, "not looked at, since Pillow's LOAD_TRUNCATED_IMAGES is set")
     with Image.open(io.BytesIO(data), formats=[kind]) as image:
         plain = image.convert("L") if image.mode == "1" else image
         raw, step = plain.tobytes(), len(plain.getbands())
+    _need(not (ImageFile.LOAD_TRUNCATED_IMAGES or kind == "GIF" and step > 1), "not looked at, since Pillow's LOAD_TRUNCATED_IMAGES or LOADING_STRATEGY is set")
     return [raw[at : at + step] for at in range(0, len(raw), step)]
 
 

@@ -82,9 +82,9 @@ class Child:
         env = {**os.environ, "NONOBENCH_LIBRARY": PATH}
         with theirs:
             self._process = subprocess.Popen(words, stdin=theirs.fileno(), stdout=subprocess.PIPE, env=env, **more)
-        self.pid = self._process.pid
+        self.pid, self._owner = self._process.pid, os.getpid()
         self.is_stopped = False
-        self.end = weakref.finalize(self, _end, self._process, self._stream, os.getpid())
+        self.end = weakref.finalize(self, _end, self._process, self._stream, self._owner)
 
     @property
     def is_sending(self) -> bool:
@@ -96,11 +96,11 @@ class Child:
         return self._stream.fileno()
 
     def is_waiting(self) -> bool:
-        """Whether it waits for a question: it has not ended, and nothing of another answer is there."""
+        """Whether it waits for a question: it is not a parent's, it has not ended, and nothing of another answer is there."""
         try:
             self._stream.recv(1, socket.MSG_PEEK)
         except BlockingIOError:
-            return not self._come and not self.is_stopped
+            return not self._come and not self.is_stopped and self._owner == os.getpid()
         except OSError as error:  # where the stream is open no other error of the system: a signal's handler may raise one of its own here
             if self.end.alive and not isinstance(error, ConnectionError):
                 raise

@@ -80,9 +80,9 @@ class Site:
         newer = {os.path.splitext(name)[0] for name in found if name.lower().endswith(finding.HELD[0])}
         older = {name for name in found if not name.lower().endswith(finding.HELD[0]) and os.path.splitext(name)[0] in newer}
         self.unread += [Answer(os.path.join(self._certificates, name), ACCEPTED, "not read, since a .cert is there") for name in sorted(older)]
-        pictures = {name for name in below[self._site] if name.lower().endswith(".ppm")}
-        order = -1 if self._places.certificates == self._folder else 1  # as picture_of has it
-        ways = ((name, f"{name}.ppm")[::order] for name in (name.rpartition(".")[0] for name in found))
+        pictures = {name for name in below[self._site] if name.endswith((".ppm", ".PPM"))}
+        called = (name.rpartition(".")[0] for name in found)  # as picture_of has it
+        ways = ([name] * (self._places.certificates != self._folder) + finding.called_beside([name], ".ppm") + [name] for name in called)
         bare = pictures.difference(next(filter(pictures.__contains__, way), "") for way in ways)
         self.bare += [Answer(os.path.join(self._site, name), REFUSED, "no certificate") for name in self._share(bare)]
         self._is_told = self._givens is not None and any(self._picture(name).is_told() for name in bare)

@@ -304,13 +304,13 @@ def _folder(prefix: str, real: str, front: str, listed: Listed, places: Places) 
 def pictures_in(way: str, front: str, places: Places) -> Folder:
     """A folder in another one, of which the plain PPM pictures alone count as puzzles."""
     listed, real = _listed(way, front, ()), os.path.join(way, front)
-    kept = None if listed is None else frozenset(one for one in listed if one[1] or one[0].endswith(".ppm"))
+    kept = None if listed is None else frozenset(one for one in listed if one[1] or one[0].endswith((".ppm", ".PPM")))
     return _folder(real, real, front, kept, places)
 
 
 def picture_of(folder: Folder, called: str) -> Found:
     """The picture that a site's certificate is for, or would be: NAME.ppm of NAME.cert, else NAME; apart NAME first, as for an audit."""
-    short = f"{called}.ppm"
+    short = next((way for way in called_beside([called], ".ppm") if way in folder.names), f"{called}.ppm")
     return _found(folder, called if _is_puzzle(folder, called) and (folder.is_held_apart or short not in folder.names) else short)
 
 

@@ -179,4 +179,4 @@ def csv_cells(row: Row) -> list[Any]:
 
 
 def _no_formula(text: str) -> str:
-    return "'" + text if unicodedata.normalize("NFKC", text.replace('"', " ").lstrip()).startswith(("=", "+", "-", "@")) else text
+    return "'" + text if unicodedata.normalize("NFKD", text.replace('"', " ").lstrip()).startswith(("=", "+", "-", "@")) else text
