@@ -1286,14 +1286,17 @@ class Running(Case):
         os.symlink("in", self.folder / "certs" / "in")
         row = self.rows("site", "--certificates", "certs", status=3)["site/in/one.ppm"]
         self.assertEqual(row["error"], "its certificate: Too many levels of symbolic links")
-        # One that has none of these puzzles is not the one that was meant; in a part there need be none.
+        # One that has none of these puzzles is not the one that was meant; a share need have none of its own.
         (self.folder / "certs" / "in").unlink()
         (self.folder / "certs" / "two.cert").write_text(CERT)
         done = self.run_audit("site", "--certificates", "certs", status=3)
         self.assertIn("nonobench-audit: certs: no certificate in it is of one of these puzzles\n", done.stderr)
-        self.run_audit("site", "--certificates", "certs", "--shard", "1/2", status=0)
+        shares = [("--shard", f"{share}/2") for share in (1, 2)]
+        for share in shares:
+            self.run_audit("site", "--certificates", "certs", *share, status=3)
         (self.folder / "certs" / "one.cert").write_text(CERT)
-        self.run_audit("site", "--certificates", "certs", status=0)
+        for share in ((), *shares):
+            self.run_audit("site", "--certificates", "certs", *share, status=0)
 
     def test_a_certificate_of_a_puzzle_that_a_set_does_not_have(self):
         self.put("set.xml", "<puzzleset>" + webpbn(UNIQUE) * 2 + "</puzzleset>")

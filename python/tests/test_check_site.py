@@ -215,11 +215,11 @@ def test_givens_and_backgrounds_of_the_site_and_not_of_strangers(site, checked, 
     (ours / "other.givens").write_text("")
     none = "ours/: no file of givens or background in it is of one of these puzzles"
     assert checked("site", "--givens", "ours") == (3, [*refused, none])
-    assert none not in checked("site", "--givens", "ours", "--shard", "1/2")[1]
+    assert all(none in checked("site", "--givens", "ours", "--shard", share)[1] for share in ("1/2", "2/2"))
     (ours / "filled.background").write_text("255,0,255")
     (ours / "given.givens").write_text("given 1 1")
-    assert checked("site", "--givens", "ours", *allowed) == (0, [])
-    assert checked("site", "--givens", "ours", "--untrusted", *allowed) == (0, [])
+    for more in ((), ("--untrusted",), ("--shard", "1/3"), ("--shard", "2/3"), ("--shard", "3/3")):
+        assert checked("site", "--givens", "ours", *more, *allowed) == (0, [])
 
 
 def test_backgrounds(site, checked):

@@ -85,8 +85,8 @@ class Site:
         ways = ([name] * (self._places.certificates != self._folder) + finding.called_beside([name], ".ppm") + [name] for name in called)
         bare = pictures.difference(next(filter(pictures.__contains__, way), "") for way in ways)
         self.bare += [Answer(os.path.join(self._site, name), REFUSED, "no certificate") for name in self._share(bare)]
-        self._is_told = self._givens is not None and any(self._picture(name).is_told() for name in bare)
-        return self._share(found - older)
+        self.found, self._bare = found - older, bare
+        return self._share(self.found)
 
     def _below(self, outer: str) -> Iterator[str]:
         """The certificates below a folder, and below the site the pictures, by their paths there. What cannot be searched is told."""
@@ -125,7 +125,7 @@ class Site:
 
     def late(self) -> Iterator[Answer]:
         """What is known once all pairs are answered."""
-        if self._givens is not None and not self._is_told and self._shard[1] == 1:
+        if self._givens is not None and not (self._is_told or any(self._picture(name).is_told() for name in self.found | self._bare)):
             yield Answer(os.path.join(self._givens, ""), UNREAD, f"no {finding.UNTOLD} in it is of one of these puzzles")
         yield from (Answer(folder, UNREAD, finding.CHANGED) for folder in finding.changed())
 
@@ -202,7 +202,7 @@ def main(words: Optional[list[str]] = None) -> int:
 def _run(told: argparse.Namespace) -> int:
     site = Site(told)
     names = site.certificates()
-    if not names and told.shard[1] == 1:
+    if not site.found:
         site.unsearched.append(Answer(os.path.join(told.certificates or told.folder, ""), UNREAD, "there is no certificate"))
     counts = {ACCEPTED: 0, REFUSED: 0, UNREAD: 0}
     required, named = (site.bare, []) if told.every_picture else ([], site.bare)

@@ -226,13 +226,13 @@ class Run:
         for found in find(options.paths, places):
             if found.why and not os.path.basename(found.path):
                 self._unlisted.add(found.name)
+            self._beside += len(found.beside)
+            self._is_told = self._is_told or found.is_told()
             if not is_in_share(found.name, options.shard):
                 self._is_elsewhere = True
                 continue
             number += 1
-            self._beside += len(found.beside)
             self._unread += found.unread
-            self._is_told = self._is_told or found.is_told()
             to, published = (name and self._way(os.path.join(name, found.stem), shut) for name, shut in ((options.certify, NONE), (options.publish, read)))
             rows = [] if self._earlier is None else self._earlier.rows(found.name)
             before = kept_digest(rows, settings.made, settings.limit, to, published)
@@ -270,7 +270,7 @@ class Run:
             for number in sorted(self._complete):
                 self._release(number)
         ours = (options.certificates, "certificate", self._beside == len(self._lost)), (options.givens, UNTOLD, not self._is_told)
-        wrong = [(way, what) for way, what, is_unused in ours if way is not None and is_unused and is_whole and options.shard == (1, 1)]
+        wrong = [(way, what) for way, what, is_unused in ours if way is not None and is_unused and is_whole]
         failures += [Failure(f"{way}: no {what} in it is of one of these puzzles") for way, what in wrong]
         is_none = is_whole and not self._tally.total and not self._is_elsewhere
         if is_none:
