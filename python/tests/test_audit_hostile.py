@@ -188,13 +188,13 @@ class Files(Case):
             ("given", f'<puzzle><solution>{cross}<solution type="saved" id="&b;givens"><image>|X?||??|</image></solution></puzzle>'),
         ):
             self.put(f"{name}.xml", front + text)
-            self.put(f"{name}-16.xml", (front + text).encode("utf-16"))
+            self.put(f"{name}-16.xml", (front + text).replace("&b;", "&l\u7400;").encode("utf-16-be"))  # whose bytes have `lt;`
         self.put("known.xml", f'{front}<puzzle><color name="r" char="&#114;">f00</color><solution type="go&#x61;l">{unique}</puzzle>')
         signs = '<color name="line" char="&#10;">000</color><color name="back" char="&#13;">f00</color>'
         breaks = {"feed": "\n", "return": "\r", "both": "\r\n", "number": "&#13;", "escaped": "\\\n", "several": "[\n]"}
         for name, broken in breaks.items():
             self.put(f"{name}.xml", f"<puzzle>{signs}<solution><image>|{broken}.||.{broken}|</image></solution></puzzle>".encode())
-        entity = "the XML cannot be read: it has a document type, and names an entity that is not declared"
+        entity = "the XML cannot be read: it has a document type, and is in UTF-16 or names an entity that is not declared"
         wanted = {f"{name}{coding}.xml": entity for name in ("ground", "type", "given") for coding in ("", "-16")}
         wanted.update({f"{name}.xml": "a row of the solution is not between bars" for name in breaks})
         self.assertEqual(self.errors("--allow", "9"), {**wanted, "known.xml": None})
@@ -704,7 +704,7 @@ class Strangers(Case):
         os.link(kept, self.site / "linked")
         for option in options[:2]:
             self.assertIn("site/linked: it has other names, too", self.run_audit("site", "--untrusted", option, "site/linked", status=3).stderr)
-        for name in ("mine", "/dev/stdout"):
+        for name in ("mine", "/dev/stderr"):
             self.run_audit("site", "--untrusted", "--csv", name, status=0)
         self.assertIn("site/one.ppm", kept.read_text())
         self.assertIn("site/none/rows: No such file or directory", self.run_audit("site", "--untrusted", "--csv", "site/none/rows", status=3).stderr)
@@ -1315,9 +1315,10 @@ class Outputs(Case):
     def test_standard_output_has_one_name(self):
         """The summary does not write over the first rows."""
         self.put("one.ppm", p3(UNIQUE))
-        for name in ("/dev/stdout", "rows"):
+        for name, is_pipe in (("/dev/stdout", False), ("rows", False), ("/dev/stdout", True)):
             with self.subTest(name), open(self.folder / "rows", "w", encoding="ascii") as out:
-                run = subprocess.run(self.words("site", "--jsonl", name), cwd=self.folder, env=self.env(), stdout=out, stderr=subprocess.PIPE, text=True)
+                to = subprocess.PIPE if is_pipe else out
+                run = subprocess.run(self.words("site", "--jsonl", name), cwd=self.folder, env=self.env(), stdout=to, stderr=subprocess.PIPE, text=True)
                 self.assertEqual((run.returncode, run.stderr), (3, f"nonobench-audit: {name}: this is standard output, which is called -\n"))
 
     def test_a_run_that_nobody_reads_can_be_stopped(self):

@@ -136,9 +136,9 @@ class Output:
         handle = os.open(way, access | os.O_CLOEXEC | flags, 0o666, dir_fd=self._folder)
         os.set_blocking(handle, True)
         self.file = io.FileIO(handle, "wb" if is_pipe else "r+b")
+        if (is_pipe or is_regular(self.file)) and os.path.samestat(os.fstat(handle), os.fstat(1)):  # where the summary goes, too
+            raise Failure(f"{self.name}: this is standard output, which is called -")
         if is_regular(self.file):  # a device such as /dev/null may have several runs
-            if os.path.samestat(os.fstat(handle), os.fstat(1)):  # where the summary goes, too, at a place of its own
-                raise Failure(f"{self.name}: this is standard output, which is called -")
             locked(self.name, self.file)
             if not os.path.samestat(os.stat(way, dir_fd=self._folder), os.fstat(self.file.fileno())):  # put in its place since
                 raise Failure(f"{self.name}: another run writes to it")

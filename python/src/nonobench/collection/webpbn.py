@@ -92,8 +92,8 @@ def _look_at_address(address: str) -> None:
 
 def _look_at_entities(data: bytes) -> None:
     """Behind a document type expat leaves out an entity in an attribute that it does not know, and the page leaves it as it stands."""
-    if _ENTITY.search(data.replace(b"\0", b"")):
-        raise Unreadable("the XML cannot be read: it has a document type, and names an entity that is not declared")
+    if b"\0" in data[:4] or _ENTITY.search(data):
+        raise Unreadable("the XML cannot be read: it has a document type, and is in UTF-16 or names an entity that is not declared")
 
 
 def _look_at_space(prefix: Optional[str], space: Optional[str]) -> None:
