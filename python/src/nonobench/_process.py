@@ -163,7 +163,7 @@ class Child:
         """Whether it told that it begins, by an empty line. It is asked once, before it is ended."""
         assert self._process.stdout
         os.set_blocking(self._process.stdout.fileno(), False)
-        return self._process.stdout.read(1) == b"\n"
+        return bool(self._process.stdout.read(1) == b"\n")
 
     def is_there(self) -> bool:
         """Whether the process has not ended."""

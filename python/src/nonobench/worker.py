@@ -102,7 +102,7 @@ class Worker(Questions):
 
 _WORKERS: weakref.WeakSet[Worker] = weakref.WeakSet()
 if os.name != "nt":
-    os.register_at_fork(after_in_child=lambda: [worker._begin() for worker in _WORKERS])  # before a thread of the child can call
+    os.register_at_fork(after_in_child=lambda: list(map(Worker._begin, _WORKERS)))  # before a thread of the child can call
 
 
 class _Process(Child):
