@@ -49,8 +49,8 @@ def colour_shown(colour: Colour, maxval: int) -> Colour:
 def picture_of_image(data: Bytes, background: Optional[Colour] = None) -> bytes:
     """The P3 text of a PNG, GIF, BMP, WebP, PGM, PBM or raw PPM image, a cell for each pixel as a browser shows it.
 
-    Transparent pixels get the background: white, or a triple of numbers from 0 to 255, and ValueError for another one. Raises
-    ImageFault if the image is refused, and ImportError if Pillow is missing for it.
+    Transparent pixels get the background, by default white; ValueError: it is no triple up to 255. Raises ImageFault if the image is
+    refused, and ImportError if Pillow is missing for it.
     """
     ground = WHITE if background is None else triple_of(background, 255)
     pixels = pixels_of(bytes_of(data))
@@ -315,8 +315,7 @@ def _bmp(data: bytes) -> Pixels:
 def _webp(data: bytes) -> Pixels:
     end = 8 + struct.unpack_from("<I", data, 4)[0]
     _need(end <= len(data))
-    at = 12
-    chunks: list[tuple[bytes, bytes]] = []
+    at, chunks = 12, list[tuple[bytes, bytes]]()
     while at < end:
         name, size = struct.unpack_from("<4sI", data, at)
         _need(at + 8 + size <= end and len(chunks) < MOST_PARTS)

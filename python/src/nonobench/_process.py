@@ -82,8 +82,7 @@ class Child:
         env = {**os.environ, "NONOBENCH_LIBRARY": PATH}
         with theirs:
             self._process = subprocess.Popen(words, stdin=theirs.fileno(), stdout=subprocess.PIPE, env=env, **more)
-        self.pid, self._owner = self._process.pid, os.getpid()
-        self.is_stopped = False
+        self.pid, self._owner, self.is_stopped = self._process.pid, os.getpid(), False
         self.end = weakref.finalize(self, _end, self._process, self._stream, self._owner)
 
     @property

@@ -9,7 +9,6 @@ from __future__ import annotations
 import argparse
 import itertools
 import os
-import signal
 import sys
 import traceback
 from concurrent.futures import ThreadPoolExecutor
@@ -73,17 +72,14 @@ class Site:
 
     def certificates(self) -> list[str]:
         """The certificates of a share, in order, one folder after another. What is called so and is no folder is among them.
-        One with the older ending .proof counts where no .cert stands beside it, and is told otherwise.
-        """
+        One with the older ending .proof counts where no .cert stands beside it, and is told otherwise."""
         below = {outer: [*self._below(outer)] for outer in dict.fromkeys((self._certificates, self._site))}
         found = {name for name in below[self._certificates] if name.lower().endswith(finding.HELD)}
         newer = {os.path.splitext(name)[0] for name in found if name.lower().endswith(finding.HELD[0])}
         older = {name for name in found if not name.lower().endswith(finding.HELD[0]) and os.path.splitext(name)[0] in newer}
         self.unread += [Answer(os.path.join(self._certificates, name), ACCEPTED, "not read, since a .cert is there") for name in sorted(older)]
         pictures = {name for name in below[self._site] if name.endswith((".ppm", ".PPM"))}
-        called = (name.rpartition(".")[0] for name in found)  # as picture_of has it
-        ways = ([name] * (self._places.certificates != self._folder) + finding.called_beside([name], ".ppm") + [name] for name in called)
-        bare = pictures.difference(next(filter(pictures.__contains__, way), "") for way in ways)
+        bare = pictures.difference(finding.picture_called(name.rpartition(".")[0], pictures, self._places.certificates != self._folder) for name in found)
         self.bare += [Answer(os.path.join(self._site, name), REFUSED, "no certificate") for name in self._share(bare)]
         self.found, self._bare = found - older, bare
         return self._share(self.found)
@@ -182,7 +178,6 @@ def main(words: Optional[list[str]] = None) -> int:
     is_closed = sys.stdout is None
     try:
         _loading.end()
-        signal.signal(signal.SIGCHLD, signal.SIG_DFL)  # where it is ignored, no process would have a status
         hold_streams()
         told = _parser().parse_args(words)
         if is_closed:

@@ -100,6 +100,7 @@ class Worker(Questions):
             self._process = process
             return answer
 
+
 _WORKERS: weakref.WeakSet[Worker] = weakref.WeakSet()
 if os.name != "nt":
     os.register_at_fork(after_in_child=lambda: list(map(Worker._begin, _WORKERS)))  # before a thread of the child can call

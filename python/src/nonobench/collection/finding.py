@@ -308,10 +308,15 @@ def pictures_in(way: str, front: str, places: Places) -> Folder:
     return _folder(real, real, front, kept, places)
 
 
+def picture_called(called: str, names: Iterable[str], is_apart: bool) -> str:
+    """What the picture of a site's certificate is called, or would be: NAME.ppm of NAME.cert, else NAME; apart NAME first, as for an audit."""
+    short = next((way for way in called_beside([called], ".ppm") if way in names), f"{called}.ppm")
+    return called if called in names and os.path.splitext(called)[1] and (is_apart or short not in names) else short
+
+
 def picture_of(folder: Folder, called: str) -> Found:
-    """The picture that a site's certificate is for, or would be: NAME.ppm of NAME.cert, else NAME; apart NAME first, as for an audit."""
-    short = next((way for way in called_beside([called], ".ppm") if way in folder.names), f"{called}.ppm")
-    return _found(folder, called if _is_puzzle(folder, called) and (folder.is_held_apart or short not in folder.names) else short)
+    """The picture that a site's certificate is for, or would be, with what goes with it."""
+    return _found(folder, picture_called(called, folder.names, folder.is_held_apart))
 
 
 def begin(*ways: Optional[str]) -> None:
@@ -347,8 +352,7 @@ def _ways(folder: Folder, name: str) -> list[str]:
 def _told(folder: Folder, name: str, end: str) -> tuple[Optional[str], str]:
     """The givens of a puzzle, or its background; and why it is not known whether they are. In a folder of their own a name with an ending
     of puzzles is a whole one, whatever is there, and those after a stem are of the only puzzle with it; beside puzzles those after both
-    are of all with the stem.
-    """
+    are of all with the stem."""
     if folder.told is None:
         return (folder.told_in or ".") if end == TOLD[0] else None, ""
     stem, ours = os.path.splitext(name)[0], _ways(folder, name)

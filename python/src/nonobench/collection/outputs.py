@@ -10,6 +10,7 @@ import io
 import math
 import os
 import select
+import signal
 import stat
 import sys
 import time
@@ -69,6 +70,7 @@ def is_regular(file: BinaryIO) -> bool:
 
 def hold_streams() -> None:
     """Puts a file that takes nothing in the place of each standard stream that is closed: what is opened next would have its number."""
+    signal.signal(signal.SIGCHLD, signal.SIG_DFL)  # inherited, too: where it is ignored, no process would have a status
     for number in range(3):
         try:
             os.fstat(number)

@@ -74,8 +74,8 @@ def main(words: Optional[list[str]] = None) -> int:
     hold_streams()
     Stopped.is_held, Stopped.came, Output.until = False, 0, math.inf
     try:
-        for number, handler in ((signal.SIGINT, _stop), (signal.SIGTERM, _stop), (signal.SIGCHLD, signal.SIG_DFL)):
-            signal.signal(number, handler)
+        for number in (signal.SIGINT, signal.SIGTERM):
+            signal.signal(number, _stop)
         try:
             options = options_of(sys.argv[1:] if words is None else words)
             return Run(options).merge() if options.is_merge else Run(options).audit()
@@ -224,7 +224,7 @@ class Run:
         places = Places(options.certificates, options.givens, options.is_untrusted, is_written)
         read = folders_of([*options.paths, *([] if options.givens is None else [options.givens])])
         for found in find(options.paths, places):
-            if found.why and not os.path.basename(found.path):
+            if found.why and not os.path.basename(found.path):  # a folder, whose path ends with /
                 self._unlisted.add(found.name)
             self._beside += len(found.beside)
             self._is_told = self._is_told or found.is_told()
