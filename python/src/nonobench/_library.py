@@ -13,7 +13,7 @@ if TYPE_CHECKING:
     from types import TracebackType
     from typing import Any, Callable
 
-DONE, REFUSED, MEMORY, CLOSED = 0, 1, 4, 5
+DONE, REFUSED, MEMORY, CLOSED, OPTIONS = 0, 1, 4, 5, 6
 NAME = "nonobench.dll" if os.name == "nt" else "libnonobench.so"
 
 # The folder of the package.
