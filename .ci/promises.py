@@ -51,23 +51,18 @@ def clauses_after(lines, at, indent):
     return [line[margin:].rstrip() for line in found]
 
 
-class Call:
-    """A public function with its comment and clauses."""
-
-    def __init__(self, name, file, comment, clauses):
-        self.name, self.file, self.comment, self.clauses = name, file, comment, clauses
-
-    def lines(self):
-        yield f'- **`{self.name}`** ([{Path(self.file).name}](../{self.file}))'
-        if self.comment:
-            yield from ('', f'  {self.comment}')
-        if self.clauses:
-            yield from ('', '  ```', *(f'  {clause}' for clause in self.clauses), '  ```')
-        yield ''
+def item(name, file, comment, clauses):
+    """The lines of a public function with its comment and clauses."""
+    yield f'- **`{name}`** ([{Path(file).name}](../{file}))'
+    if comment:
+        yield from ('', f'  {comment}')
+    if clauses:
+        yield from ('', '  ```', *(f'  {clause}' for clause in clauses), '  ```')
+    yield ''
 
 
 def calls_of(file, names, is_open):
-    """The public calls of a file: functions that are named or in an open module, methods of types and traits that are named."""
+    """The lines of a file's public calls: functions named or in an open module, methods of types and traits that are named."""
     lines = (ROOT / file).read_text(encoding='utf-8').split('\n')
     owner = None
     for at, line in enumerate(lines):
@@ -84,7 +79,7 @@ def calls_of(file, names, is_open):
         is_public = head[2] and (is_open or name in names) if is_free else owner and owner[0] in names and (head[2] or owner[1])
         if is_public:
             whole = name if is_free else f'{owner[0]}::{name}'
-            yield Call(whole, file, comment_before(lines, at), clauses_after(lines, at, head[1] or head[3] or ''))
+            yield from item(whole, file, comment_before(lines, at), clauses_after(lines, at, head[1] or head[3] or ''))
 
 
 def part_of(crate):
@@ -92,13 +87,13 @@ def part_of(crate):
     folder = ROOT / 'crates' / crate / 'src'
     root = (folder / 'lib.rt').read_text(encoding='utf-8')
     names, modules = public_names(root)
-    calls = [
-        call
+    lines = [
+        line
         for path in sorted(folder.rglob('*.rt'))
-        for call in calls_of(path.relative_to(ROOT).as_posix(), names, path.stem in modules or path.name == 'lib.rt')
+        for line in calls_of(path.relative_to(ROOT).as_posix(), names, path.stem in modules or path.name == 'lib.rt')
     ]
     told = re.match(r'//! (.*(?:\n//! .*)*)', root)[1].replace('\n//! ', ' ')
-    return [f'## `{crate}`', '', told, '', *(line for call in calls for line in call.lines())] if calls else []
+    return [f'## `{crate}`', '', told, '', *lines] if lines else []
 
 
 def page(text):

@@ -28,7 +28,7 @@ extern "C" {
 #endif
 
 /* The version of this header. nonobench_version gives the version of the library. */
-#define NONOBENCH_VERSION "0.7.8"
+#define NONOBENCH_VERSION "0.7.9"
 
 /* How many bytes a picture, a certificate or a file of givens may have, as for the program. The library itself accepts any length. */
 #define NONOBENCH_MOST_BYTES ((size_t)16777216)
@@ -209,9 +209,9 @@ typedef struct nonobench_assessment {
 } nonobench_assessment;
 
 /* Assesses a puzzle, a P3 text or (`non`) a .non text with a goal. A background counts as named where the options have one. With a
- * certificate (not null) the checker says what is unique, and nothing is searched; `any_given` then publishes the givens that it names.
- * Otherwise `allowance` is as for nonobench_verdict. The text is what the program prints for the puzzle, or why it is refused: then all
- * of `found` is 0, but its size.
+ * certificate (not null) the checker says what is unique, and nothing is searched; `any_given` then publishes the givens that it names
+ * (of a .non text, what is wrong with these is told as `givens`). Otherwise `allowance` is as for nonobench_verdict. The text is what
+ * the program prints for the puzzle, or why it is refused: then all of `found` is 0, but its size.
  * `options` and `text` may be null. */
 uint32_t nonobench_assess_puzzle(const void *puzzle, size_t puzzle_size, bool non, const void *certificate, size_t certificate_size,
                                  const nonobench_options *options, int32_t allowance, nonobench_assessment *found,

@@ -19,7 +19,7 @@ extern "C" {
 #endif
 
 /* The version of this header. nonocheck_version gives the version of the library. */
-#define NONOCHECK_VERSION "0.7.8"
+#define NONOCHECK_VERSION "0.7.9"
 
 /* How much room the longest text needs, with a NUL behind it. */
 #define NONOCHECK_ROOM ((size_t)96)

@@ -21,8 +21,8 @@ const USAGE = 'usage: check_upload.mjs [--allow-flaw KIND ..] PICTURE CERTIFICAT
 
 // The package, where it is installed for this file; else null.
 const installed = await import('nonobench').catch((error) => {
-  if (error.code === 'ERR_MODULE_NOT_FOUND') return null;
-  throw error;
+  const isAbsent = error.code === 'ERR_MODULE_NOT_FOUND' && error.message.includes("package 'nonobench'");
+  return isAbsent ? null : leave(`the package nonobench cannot be read: ${error.message}`, 3);
 });
 
 // The bytes of a regular file, or null where they are too many. Nothing waits for a pipe, and of a device nothing is read.

@@ -12,15 +12,10 @@ import { fallsOf, grading } from '../page/engine/serve.js';
 import { LINE_WORDS } from '../page/repair/aiming.js';
 import { Board, cellsOf } from '../page/repair/board.js';
 import { aim } from '../page/repair/repair.js';
+import { median, processorTime as now } from './figures.mjs';
 
 const { positionals: [wasm, folder], values } = parseArgs({ allowPositionals: true, options: { most: { type: 'string', default: '200' }, seconds: { type: 'string', default: '4' } } });
 const engine = await load(readFileSync(wasm));
-
-// Milliseconds of the processor so far.
-function now() {
-    const { user, system } = process.cpuUsage();
-    return (user + system) / 1000;
-}
 
 // What a session says of a picture: its colours and rows of letters, and its grade where line logic solves it, else null.
 function reportOf(bench) {
@@ -59,12 +54,11 @@ for (const name of readdirSync(folder).filter((one) => one.endsWith('.ppm')).sor
     }
     bench.close();
 }
-const median = (list) => [...list].sort((one, other) => one - other)[Math.floor(list.length / 2)]?.toFixed(0) ?? '';
 console.log('| from to | pictures | reached | 1 cell | 2 | 3 | 4 | 1 given | first ms, median | largest |\n|---|---|---|---|---|---|---|---|---|---|');
 for (const way of [...new Set(rows.map((row) => row.way))].sort()) {
     const some = rows.filter((row) => row.way === way);
     const first = some.map((row) => row.first).filter((one) => one !== undefined);
-    console.log(`| ${[way, some.length, first.length, ...[1, 2, 3, 4].map((size) => some.filter((row) => row.least === size).length), some.filter((row) => row.given).length, median(first), Math.max(0, ...first).toFixed(0)].join(' | ')} |`);
+    console.log(`| ${[way, some.length, first.length, ...[1, 2, 3, 4].map((size) => some.filter((row) => row.least === size).length), some.filter((row) => row.given).length, median(first)?.toFixed(0) ?? '', Math.max(0, ...first).toFixed(0)].join(' | ')} |`);
 }
 const reached = new Set(rows.filter((row) => row.first !== undefined).map((row) => row.name)).size;
 console.log(`\n${reached} of ${pictures} pictures reach a grade beside theirs; ${wrong} proposals are wrong`);

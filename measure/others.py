@@ -41,7 +41,7 @@ from statistics import median
 sys.dont_write_bytecode = True
 ROOT = Path(__file__).resolve().parent.parent
 sys.path.insert(0, str(ROOT / 'tests/references'))
-from others_plot import CERTIFY, CHECK, PROVE, VERIFY, by, of_solvers, print_tables, read_rows, write_plot, write_rows  # noqa: E402
+from others_plot import CERTIFY, CHECK, PROVE, VERIFY, by, drawn, of_solvers, print_tables, read_rows, write_rows  # noqa: E402
 from reference.faults import Fault  # noqa: E402
 from reference.lines import clues_of, line_of, names  # noqa: E402
 from reference.pictures import read_ppm  # noqa: E402
@@ -380,7 +380,7 @@ def main():
     if asked.csv:
         write_rows(asked.csv, rows)
     if asked.svg:
-        write_plot(asked.svg, rows)
+        Path(asked.svg).write_text(drawn(rows), encoding='utf-8')
     print_tables(rows)
 
 

@@ -181,11 +181,6 @@ def drawn(rows):
     return '\n'.join(plot(rows)) + '\n'
 
 
-def write_plot(path, rows):
-    """Writes the plot."""
-    Path(path).write_text(drawn(rows), encoding='utf-8')
-
-
 def tables(rows):
     """The lines of each table; the third leaves out the pictures on which nonobench was improved."""
     others = [row for row in rows if not row['tuned']]
@@ -220,7 +215,7 @@ def main():
     if '--said' not in sys.argv:
         print_tables(rows)
         if len(words) == 2:
-            write_plot(words[1], rows)
+            Path(words[1]).write_text(drawn(rows), encoding='utf-8')
         return 0
     faults = unsaid(rows, Path(words[2]).read_text(encoding='utf-8'))
     faults += [] if Path(words[1]).read_text(encoding='utf-8') == drawn(rows) else [f'{words[1]} is another plot']

@@ -5,6 +5,7 @@ import { tmpdir } from 'node:os';
 import { join, resolve } from 'node:path';
 import { Browser } from '../tests/page/page_browser.mjs';
 import { Trial, hookedPage, noise, ppmOf } from '../tests/page/page_trial.mjs';
+import { median } from './figures.mjs';
 
 const LETTERS = '.abcdefghijklmno';
 const palette = Object.fromEntries([...LETTERS].map((letter, at) => [letter, at === 0 ? '255 255 255' : `${(at * 83) % 256} ${(at * 151) % 256} ${(at * 37) % 256}`]));
@@ -37,7 +38,6 @@ const press = (row, col) => new Promise((done) => {
     }));
 });
 
-const median = (list) => [...list].sort((one, other) => one - other)[Math.floor(list.length / 2)];
 const folder = mkdtempSync(join(tmpdir(), 'nonobench-speed-'));
 const turns = Number(process.argv[3] ?? 15);
 const browser = new Browser();

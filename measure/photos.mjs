@@ -8,6 +8,7 @@ import { spawnSync } from 'node:child_process';
 import { writeFileSync } from 'node:fs';
 import { join, resolve } from 'node:path';
 import { fileURLToPath, pathToFileURL } from 'node:url';
+import { median } from './figures.mjs';
 
 const root = resolve(process.env.ROOT ?? fileURLToPath(new URL('..', import.meta.url)));
 const load = (name) => import(pathToFileURL(join(root, 'page', name)).href);
@@ -136,7 +137,6 @@ function errorOf(labs, numbers, palette) {
     return parts.reduce((sum, one) => sum + one, 0) / parts.length;
 }
 
-const median = (list) => [...list].sort((one, other) => one - other)[Math.floor(list.length / 2)];
 const pictures = Object.entries(PICTURES).map(([name, parts]) => ({ name, ...drawn(parts, name.startsWith('drawing') ? 3 : 14) }));
 const cuts = medianCuts(pictures.map(({ image }) => image));
 const ratios = { cut: [], means: [] };

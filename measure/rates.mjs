@@ -3,6 +3,7 @@
 // processor time are made.
 import { readFileSync } from 'node:fs';
 import { load } from '../web/nonobench.mjs';
+import { processorTime } from './figures.mjs';
 
 const [module, name, rounds] = process.argv.slice(2);
 const file = readFileSync(name), pairs = [];
@@ -21,18 +22,12 @@ function said(picture, lines) {
   return text.startsWith('unique\n');
 }
 
-// Processor time here, in seconds.
-function seconds() {
-  const { user, system } = process.cpuUsage();
-  return (user + system) / 1e6;
-}
-
 function rate(ask) {
   let best = 0;
   for (let round = 0; round < rounds; round += 1) {
-    const begun = seconds();
+    const begun = processorTime();
     for (const pair of pairs) if (!ask(...pair)) throw new Error('a pair is refused');
-    best = Math.max(best, pairs.length / (seconds() - begun));
+    best = Math.max(best, 1000 * pairs.length / (processorTime() - begun));
   }
   return best;
 }

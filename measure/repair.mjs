@@ -9,17 +9,12 @@ import { parseArgs } from 'node:util';
 import { load } from '../web/nonobench.mjs';
 import { Board, cellsOf } from '../page/repair/board.js';
 import { repair } from '../page/repair/repair.js';
+import { median, processorTime as now } from './figures.mjs';
 
 const { positionals: [wasm, folder], values } = parseArgs({
     allowPositionals: true,
     options: { every: { type: 'string', default: '1' }, seconds: { type: 'string', default: '10' }, questions: { type: 'string', default: '2000' }, free: { type: 'boolean', default: false } },
 });
-// Milliseconds of the processor so far.
-function now() {
-    const { user, system } = process.cpuUsage();
-    return (user + system) / 1000;
-}
-
 const bounds = { now, seconds: Number(values.seconds), questions: Number(values.questions) };
 const engine = await load(readFileSync(wasm));
 
@@ -79,7 +74,6 @@ async function tried(name, goal) {
     return row;
 }
 
-const median = (list) => [...list].sort((one, other) => one - other)[Math.floor(list.length / 2)] ?? 0;
 const within = (rows, size) => rows.filter((row) => row.size <= size).length;
 
 function tableRow(name, rows) {

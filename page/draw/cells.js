@@ -130,7 +130,7 @@ export class Cells {
     if (rival >= 0) this.rival(sheet, rival, x, y, wide, high);
     if (this.hasLetters) this.letter(sheet, look & 15, rival, x, y, wide, high);
     if (look & GIVEN) drawGiven(this.surface, x, y, Math.min(wide, high));
-    if (look & LOCKED) this.locked(sheet, x, y, Math.min(wide, high));
+    if (look & LOCKED) this.locked(x, y, Math.min(wide, high));
   }
 
   // The other picture's colour in the lower corner, and a frame.
@@ -162,7 +162,7 @@ export class Cells {
   }
 
   // A lock: a small square with a bow, at the lower left.
-  locked(sheet, x, y, high) {
+  locked(x, y, high) {
     const { pen } = this;
     const side = Math.max(2, high * 0.26);
     const [left, top] = [x + high * 0.08, y + high * 0.92 - side * 0.7];

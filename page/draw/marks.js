@@ -2,6 +2,7 @@
 
 import { HOLE, boxAround, shapeOf } from '../document/regions.js';
 import { isPossible } from '../document/symmetry.js';
+import { CanvasSurface } from './surface.js';
 
 /** Draws a line that is seen on any colour: white, and then less wide in an ink, which may be dashed. `widths` and `dash` are in pixels of the page. */
 export function drawTwice(pen, scale, widths, { ink, dash = [] }, stroke) {
@@ -61,6 +62,7 @@ function drawBox(pen, sheet, box) {
 // The places where line solving stalls, each framed; where there are several they have numbers.
 function drawPlaces(pen, sheet) {
   const { geometry: at, state, places } = sheet;
+  const surface = new CanvasSurface(pen);
   places.forEach((cells, number) => {
     const box = boxAround(new Set(cells), state.columns);
     const path = new Path2D();
@@ -68,15 +70,8 @@ function drawPlaces(pen, sheet) {
     drawTwice(pen, at.scale, [5, 2.5], { ink: sheet.inks.alarm }, () => pen.stroke(path));
     if (places.length < 2) return;
     const [x, y, size] = [at.x(cells[0] % state.columns), at.y(Math.floor(cells[0] / state.columns)), 8 * at.scale];
-    pen.fillStyle = sheet.inks.alarm;
-    pen.beginPath();
-    pen.arc(x, y, size, 0, 7);
-    pen.fill();
-    pen.fillStyle = sheet.inks.paper;
-    pen.font = `600 ${Math.round(size * 1.4)}px ${sheet.family}`;
-    pen.textAlign = 'center';
-    pen.textBaseline = 'middle';
-    pen.fillText(number + 1, x, y + at.scale / 2);
+    surface.disc(x, y, size, sheet.inks.alarm);
+    surface.text(number + 1, x, y + at.scale / 2, { size: Math.round(size * 1.4), ink: sheet.inks.paper, family: sheet.family, weight: 600 });
   });
 }
 

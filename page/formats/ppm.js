@@ -1,6 +1,5 @@
 // Plain and raw PPM pictures (P3 and P6), read as images of 8-bit samples whatever their maxval is.
 
-import { number } from '../base/words.js';
 import { FileFault } from '../document/limits.js';
 import { phrase } from '../texts/phrase.js';
 

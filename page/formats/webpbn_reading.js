@@ -142,14 +142,12 @@ function orderOf(signs, colours, ground) {
   return { bySign, order: taken };
 }
 
-const BLUES = [...Array(256).keys()];
-
 function docOfSigns(signs, colours, ground) {
   const { bySign, order } = orderOf(signs, colours, ground);
   const triples = new Set();
   const triplesOf = order.map(({ triple }) => {
     // Two colours that are shown alike stay two, as near as they can be.
-    const blues = [...BLUES].sort((one, other) => Math.abs(one - triple[2]) - Math.abs(other - triple[2]));
+    const blues = [...Array(256).keys()].sort((one, other) => Math.abs(one - triple[2]) - Math.abs(other - triple[2]));
     const own = blues.map((blue) => [triple[0], triple[1], blue]).find((one) => !triples.has(one.join()));
     triples.add(own.join());
     return own;

@@ -3,7 +3,7 @@
 
 import { chooseFiles, say } from '../base/elements.js';
 import { tell } from '../base/events.js';
-import { bareName, number } from '../base/words.js';
+import { bareName } from '../base/words.js';
 import { FileFault } from '../document/limits.js';
 import { startEngine } from '../engine/client.js';
 import { kindOfPalette } from '../formats/palettes.js';

@@ -108,7 +108,6 @@ function playLook() {
 }
 
 export function drawPlay() {
-  const { state } = play;
   const { wide, high } = playStrips();
   const [across, down] = fieldSize();
   const board = $('play-board');

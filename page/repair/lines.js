@@ -2,15 +2,14 @@
 //
 // Candidates are a mask for each cell: bit 0 is the background, bit k colour k.
 
-const MOST_CELLS = 120;
+export const MOST_CELLS = 120; // of a line; it has no more blocks
 const STRIDE = MOST_CELLS + 1;
-const MOST_BLOCKS = MOST_CELLS;
 
 // Room that each call writes anew. `ends` and `begins` have a row for each number of blocks and a column for each place.
-const least = new Int32Array(MOST_BLOCKS + 1);
-const gaps = new Uint8Array(MOST_BLOCKS + 1);
-const ends = new Uint8Array((MOST_BLOCKS + 1) * STRIDE);
-const begins = new Uint8Array((MOST_BLOCKS + 1) * STRIDE);
+const least = new Int32Array(MOST_CELLS + 1);
+const gaps = new Uint8Array(MOST_CELLS + 1);
+const ends = new Uint8Array((MOST_CELLS + 1) * STRIDE);
+const begins = new Uint8Array((MOST_CELLS + 1) * STRIDE);
 const free = new Int32Array(16 * STRIDE);
 
 /** The clue of a line of colour numbers: its blocks' lengths and colours, in order. */

@@ -1,8 +1,7 @@
 // What line logic leaves of a candidate, for searches alone: they try thousands a second, and the session judges what they find.
 
-import { narrow } from './lines.js';
+import { MOST_CELLS, narrow } from './lines.js';
 
-const MOST_CELLS = 120; // of a line
 const line = new Uint16Array(MOST_CELLS);
 const out = new Uint16Array(MOST_CELLS);
 
@@ -81,9 +80,7 @@ export class Narrowing {
 
   // Puts candidates that were excluded in a line, or in none: then both of the cell's lines are due.
   #write(index, mask, one) {
-    const { rows, columns } = this.board;
-    const row = Math.floor(index / columns);
-    const column = rows + (index % columns);
+    const [row, column] = this.board.linesOf(index);
     const wasOpen = !isSettled(this.masks[index]);
     this.masks[index] = mask;
     if (one !== row) this.isDue[row] = 1;

@@ -1,14 +1,13 @@
 // Witnesses that a candidate misses the goal. For one solution: other colours for some cells with the same clues. For line logic:
 // cells whose candidates hold one another up. Kept, one refutes further candidates without a question to the engine.
 
-import { clueOf, narrow } from './lines.js';
+import { MOST_CELLS, clueOf, narrow } from './lines.js';
 
-const MOST = 120;
-const line = new Uint8Array(MOST);
-const other = new Uint8Array(MOST);
-const masks = new Uint16Array(MOST);
-const kept = new Uint16Array(MOST);
-const changed = new Uint8Array(2 * MOST); // lines
+const line = new Uint8Array(MOST_CELLS);
+const other = new Uint8Array(MOST_CELLS);
+const masks = new Uint16Array(MOST_CELLS);
+const kept = new Uint16Array(MOST_CELLS);
+const changed = new Uint8Array(2 * MOST_CELLS); // lines
 const POOL = 4000; // witnesses kept
 
 /** Whether two lines of one length have the same clue. */

@@ -792,12 +792,12 @@ class Running(Case):
         self.assertEqual((Path(f"{name}.ppm").read_bytes(), Path(f"{name}.background").read_text()), (p3(UNIQUE), "255,0,0\n"))
 
     def test_pictures_of_names_that_end_as_pictures_do(self):
-        """What is written of `one.ppm.xml` lies beside the picture of `one.png`, and is not taken for what goes with that."""
+        """What is written of `one.ppm.xml` lies beside the picture of `one.png`, by its whole name, and is not taken for what goes with that."""
         self.put("one.png", p3(UNIQUE))
         given = '<solution type="saved" id="givens"><image>|?X||??|</image></solution>'
         self.put("one.ppm.xml", webpbn(["ba", "ab"], more=given).replace("<puzzle ", '<puzzle backgroundcolor="red" '))
         self.rows("site", "--untrusted", "--ppm", "out", "--certify", "out", status=0)
-        self.assertEqual((self.folder / "out" / "one.ppm.givens").read_bytes(), b"given 1 2\n")
+        self.assertEqual((self.folder / "out" / "one.ppm.xml.givens").read_bytes(), b"given 1 2\n")
         self.assertEqual(check_site.main([str(self.folder / "out"), "--quiet"]), 0)
         again = self.rows("out", status=0)
         self.assertEqual([row["certificate"] for row in again.values()], [{"accepted": True}, {"accepted": True, "givens": [[1, 2]]}])
@@ -931,11 +931,12 @@ class Running(Case):
 
     def test_puzzles_that_are_not_reached_are_told(self):
         """A set looks whole in no case where a puzzle's process ends before it has come to the puzzle."""
-        for why, tries, start in (("late", 1, 5), ("gone", 2, 5), ("late", 1, 1), ("gone", 2, 1)):
+        for why, tries, start, has_signs in (("late", 1, 5, True), ("gone", 2, 5, True), ("late", 1, 1, True), ("gone", 2, 1, True), ("late", 2, 1, False), ("gone", 2, 1, False)):
             task = serving.Task(0, "set.xml", "set.xml", (), None, None, None, "", start, serving.FULL)
             pool = workers.Pool(types.SimpleNamespace(limit="9 s"), 0, 9.0)
-            hand = types.SimpleNamespace(tasks=deque([task]), known=None, quiet=0.0, has_more=None)
-            self.assertEqual(list(pool._hear(hand, 0, "on", "", "", "")), [])
+            hand = types.SimpleNamespace(tasks=deque([task]), known=None, quiet=0.0, has_more=None, is_reading=False)
+            if has_signs:
+                self.assertEqual(list(pool._hear(hand, 0, "on", "", "", "")), [])
             told = [list(pool._blame(hand, task, why, why == "late")) for _ in range(tries)]
             (answer,) = told.pop()
             self.assertEqual((told, answer.is_last), ([[]] * (tries - 1), True))
@@ -1179,7 +1180,7 @@ class Running(Case):
         refused = {"accepted": False, "why": "certificate NotCert at line 1"}
         self.put("DUCK.PNG", image("PNG"))
         self.put("SET.XML", "<puzzleset>" + webpbn(UNIQUE) + webpbn(UNIQUE) + "</puzzleset>")
-        for ending in ("CERT", "PROOF"):
+        for ending in ("CERT", "PROOF", "Cert"):
             for name in (f"DUCK.{ending}", f"SET.2.{ending}"):
                 self.put(name, "x")
             rows = self.rows("site", status=1)
@@ -1188,8 +1189,10 @@ class Running(Case):
                 (self.site / name).unlink()
         # By a black background the red cells may change places.
         self.put("DUCK.PPM", b"P3 2 2 1 0 0 0 1 0 0 1 0 0 0 0 0\n")
-        self.put("DUCK.PPM.BACKGROUND", "0,0,0")
-        self.assertEqual(self.rows("site", "--certify", "certs", status=1)["site/DUCK.PPM"]["verdict"], "ambiguous")
+        for ending in ("BACKGROUND", "Background"):
+            place = self.put(f"DUCK.PPM.{ending}", "0,0,0")
+            self.assertEqual(self.rows("site", "--certify", "certs", status=1)["site/DUCK.PPM"]["verdict"], "ambiguous")
+            place.unlink()
         # Each has a name of its own, since the two differ in their suffix alone.
         self.assertEqual([place.name for place in (self.folder / "certs").glob("DUCK*")], ["DUCK.PNG.cert"])
 
@@ -1824,6 +1827,13 @@ class Again(Case):
         self.assertEqual(made[0], made[1])
         self.assertNotIn("seconds", made[0])
 
+    def test_a_signal_that_is_ignored_stays_so(self):
+        """As Ctrl-C is for what a shell runs behind it: it is meant for another program."""
+        self.put("one.ppm", p3(UNIQUE))
+        self.addCleanup(signal.signal, signal.SIGINT, signal.signal(signal.SIGINT, signal.SIG_IGN))
+        with unittest.mock.patch.object(running.Run, "audit", lambda _: os.kill(os.getpid(), signal.SIGINT) or 0):
+            self.assertEqual(in_process(self.folder, "site"), (0, ""))
+
     def test_stop_keeps_what_is_done(self):
         for at in range(30):
             self.put(f"{at:02}.ppm", p3(UNIQUE))
@@ -1876,10 +1886,8 @@ class Again(Case):
         self.assertEqual([line[:5] for line in (self.folder / "rows.csv").read_text().splitlines()[1:]], ["0.ppm", "1.ppm", "2.ppm"])
 
     def test_rows_that_wait_are_written_once_and_not_held(self):
+        """Without a file of rows they are in one for the run, which has no name in the end."""
         texts = [json.dumps({"file": "b.xml", "puzzle": at, "more": at < 9, "verdict": "error", "error": "x" * 9999}) for at in range(1, 10)]
-        run = running.Run(arguments.Options([], jsonl=str(self.folder / "rows"), csv=str(self.folder / "sheet"), is_quiet=True))
-        run._open()
-        run._kept = {at: running.Kept((), None) for at in (0, 1)}
         sizes = []
 
         def answers():
@@ -1889,13 +1897,17 @@ class Again(Case):
                 sizes.append(run._size)
             yield workers.Answer(0, True, "none", "")
 
-        with unittest.mock.patch.object(running, "BEHIND", -1.0), unittest.mock.patch.object(run, "_placed", wraps=run._placed) as placed:
-            run._take_all(answers())
-        self.assertLess(sizes[-1], 9999)
-        self.assertGreater(sizes[-1], 9 * 100, "what is kept of each counts")
-        self.assertEqual((placed.call_count, run._size, run._close(True)), (9, 0, []))
+        for jsonl in (str(self.folder / "rows"), None):
+            run = running.Run(arguments.Options([], jsonl=jsonl, csv=str(self.folder / "sheet"), is_quiet=True))
+            run._open()
+            run._kept = {at: running.Kept((), None) for at in (0, 1)}
+            with unittest.mock.patch.object(running, "BEHIND", -1.0), unittest.mock.patch.object(run, "_placed", wraps=run._placed) as placed, run._stack:
+                run._take_all(answers())
+            self.assertLess(sizes[-1], 9999)
+            self.assertGreater(sizes[-1], 9 * 100, "what is kept of each counts")
+            self.assertEqual((placed.call_count, run._size, run._close(True)), (9, 0, []))
+            self.assertEqual((self.folder / "sheet").read_text().count("x" * 9999), 9)
         self.assertEqual((self.folder / "rows").read_text().splitlines(), texts)
-        self.assertEqual((self.folder / "sheet").read_text().count("x" * 9999), 9)
 
     def test_an_answer_that_is_lost_is_told(self):
         place, text = self.folder / "rows.jsonl", json.dumps({"file": "1.ppm", "verdict": "error", "error": "x"})

@@ -4,12 +4,14 @@ Files that are cut, huge, bombs or traps; names that are markup, formulas or way
 that die, hang or take too much. Each test names what must come out.
 """
 
+import asyncio
 import contextlib
 import fcntl
 import importlib.util
 import io
 import itertools
 import json
+import logging
 import marshal
 import os
 import pty
@@ -244,6 +246,7 @@ class Files(Case):
             ("attributes", '<!DOCTYPE a [<!ATTLIST a b CDATA "c">]>' + webpbn(UNIQUE)),
             ("comment", f"<!--{'-a' * 600_000}-->" + webpbn(UNIQUE)),
             ("tag", f"<puzzle b='{'a' * 1_100_000}'></puzzle>"),
+            ("late", f"<puzzleset>{' ' * 400_000}<!--{'a' * 600_000}-->{' ' * 500_000}{webpbn(UNIQUE)}</puzzleset>"),
             ("space", f"<puzzleset xmlns='{'a' * 1000}'>{webpbn(UNIQUE)}</puzzleset>"),
             ("short", f"<!--{'-a' * 1000}--><puzzleset xmlns:b='http://example.org/'>{webpbn(UNIQUE)}</puzzleset>"),
             ("set", f"<puzzleset>{'<puzzle/>' * 20_000}</puzzleset>"),
@@ -255,7 +258,7 @@ class Files(Case):
             "comment.xml": "the XML cannot be read: a tag or a comment of it has more than 1048576 bytes",
             "tag.xml": "the XML cannot be read: a tag or a comment of it has more than 1048576 bytes",
             "space.xml": "the XML cannot be read: a namespace of it has more than 200 characters",
-            "short.xml": None,
+            "late.xml": None, "short.xml": None,
         })
         self.assertEqual(errors["set.xml#10000"], "the puzzle has neither a solution nor all clues")
         self.assertEqual(errors["set.xml#10001"], "the XML has more than 10000 puzzles")
@@ -432,21 +435,21 @@ class Strangers(Case):
         self.assertEqual([rows[name]["givens"] for name in ("one.ppm", "one.ppm.ppm")], [[[1, 1]], [[2, 2]]])
 
     def test_each_file_of_the_operators_is_of_one_puzzle(self):
-        """One with an ending of puzzles of that with this whole name alone, else of the only one with its stem; where two have that it is
-        an error of both.
+        """Of that with this whole name, else of the only one with its stem; where that may be another's whole name, one of a set, or that of
+        two, it is an error.
         """
-        mine, names = self.folder / "mine", ("a.ppm", "a.ppm.ppm", "a.ppm.xml", "b.gif", "b.png", "c.2.png", "c.xml", "d.ppm.ppm", "e.ppm", "e.xml")
+        mine, names = self.folder / "mine", ("a.ppm", "a.ppm.ppm", "a.ppm.xml", "b.gif", "b.png", "c.2.png", "c.xml", "c.xml.2.ppm", "d.ppm.ppm", "e.ppm", "e.xml", "f.xml.2.ppm")
         mine.mkdir()
         for name in names:
             self.put(name, "")
-        for called in ("a.ppm", "b", "b.png", "c.2", "d.ppm", "e"):
+        for called in ("a.ppm", "b", "b.png", "c.2", "c.xml.2", "d.ppm", "e", "f.xml.2"):
             for end in finding.TOLD:
                 (mine / f"{called}{end}").write_text("")
-        own = {"a.ppm": "a.ppm", "b.gif": "b", "b.png": "b.png", "c.2.png": "c.2", "e.ppm": "e", "e.xml": "e"}
+        own = {"a.ppm": "a.ppm", "b.gif": "b", "b.png": "b.png", "c.2.png": "c.2", "d.ppm.ppm": "d.ppm", "e.ppm": "e", "e.xml": "e", "f.xml.2.ppm": "f.xml.2"}
         for untrusted in (False, True):
             found = {os.path.basename(one.path): one for one in finding.find([str(self.site)], finding.Places(None, str(mine), untrusted))}
             for name in names:
-                why = f"its givens: {own.get(name)}.givens may be another puzzle's: call it {name}.givens" if name in ("b.gif", "e.ppm", "e.xml") else ""
+                why = f"its givens: {own.get(name)}.givens may be another puzzle's: call it {name}.givens" if name in ("b.gif", "c.2.png", "d.ppm.ppm", "e.ppm", "e.xml", "f.xml.2.ppm") else ""
                 wanted = [own.get(name) and str(mine / f"{own[name]}{end}") for end in finding.TOLD]
                 with self.subTest(name, untrusted=untrusted):
                     self.assertEqual(([found[name].givens, found[name].background], found[name].why), (wanted, why))
@@ -601,6 +604,17 @@ class Strangers(Case):
         future.status = "error"
         with self.assertRaisesRegex(cluster.Failure, "Connection timed out"):
             judging._result(future, [])
+
+    def test_what_dask_leaves_behind_is_not_told(self):
+        """It ends its loop while a wait of its own has run out, and asyncio would tell of that on standard error."""
+        logger, loop = logging.getLogger("asyncio"), asyncio.new_event_loop()
+        self.addCleanup(setattr, logger, "disabled", False)
+        self.addCleanup(loop.close)
+        judging = cluster.Cluster("", None, None)
+        judging._client = SimpleNamespace(close=lambda timeout: loop.create_future().set_exception(TimeoutError("Timeout")))
+        with unittest.mock.patch.object(logger, "handle") as told:
+            judging.close()
+        told.assert_not_called()
 
     def test_each_puzzle_has_its_own_certificates_alone(self):
         """Those that were written of it, in a folder of their own and beside the puzzles, whatever puzzles and folders are called."""
@@ -916,9 +930,9 @@ class Names(Case):
             self.put(name, "<puzzleset>" + webpbn(UNIQUE) * 3 + "</puzzleset>")
         for name in ("x/a.ppm", "x/b.cert/z.ppm", "y/a.cert/z.ppm", "y/b.ppm/z.ppm", "y/SET.4.givens/z.ppm", "x2/SET.ppm", "y/SET.3.ppm", "y/SET.xml.ppm", "y/SET.03.ppm", "y/SET.xml.2.ppm"):
             self.put(name, p3(UNIQUE))
-        for names, status in (("x/SET.xml y/SET.3.ppm", 2), ("y/SET.3.ppm x/SET.xml", 2), ("x/SET.xml y/SET.2.xml", 2), ("x2/SET.xml y/SET.xml.ppm", 2),
+        for names, status in (("x/SET.xml y/SET.3.ppm", 2), ("y/SET.3.ppm x/SET.xml", 2), ("x/SET.xml y/SET.2.xml", 2), ("x2/SET.xml y/SET.xml.ppm", 0),
                               ("x/a.ppm y/a.cert", 2), ("y/a.cert x/a.ppm", 2), ("x/SET.xml y/SET.4.givens", 2), ("x/b.cert y/b.ppm", 0),
-                              ("x2/SET.xml y/SET.xml.2.ppm", 2), ("x/SET.xml y/SET.03.ppm", 0), ("x2/SET.xml y/SET.3.ppm", 0), ("x/SET.xml site/x/../x/SET.xml", 0)):
+                              ("x2/SET.xml y/SET.xml.2.ppm", 0), ("x/SET.xml y/SET.03.ppm", 0), ("x2/SET.xml y/SET.3.ppm", 0), ("x/SET.xml site/x/../x/SET.xml", 0)):
             with self.subTest(names):
                 paths = [name if name.startswith("site") else f"site/{name}" for name in names.split()]
                 done = self.run_audit(*paths, "--certify", "out", status=status)

@@ -134,7 +134,8 @@ class ByProgram(unittest.TestCase):
         place = f"{self.folder}/"
         for name, ground, wanted in (
             ("words.ppm", "9,9,9", ["--givens", f"{place}words.givens", "--background", "0,0,40", "--certificate", f"{place}words.PROOF"]),
-            ("two.ppm", "9,9,9", ["--certificate", f"{place}two.ppm.cert"]), ("two.non", None, []), ("a.ppm", "9,9,9", ["--background", "9,9,9"]),
+            ("two.ppm", "9,9,9", ["--certificate", f"{place}two.ppm.cert"]), ("two.non", None, ["--certificate", f"{place}two.cert"]),
+            ("a.ppm", "9,9,9", ["--background", "9,9,9"]),
             ("a.ppm.ppm", None, ["--givens", f"{place}a.ppm.givens", "--background", ""]),
         ):
             with self.subTest(name):

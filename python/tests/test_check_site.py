@@ -9,6 +9,7 @@ import signal
 import subprocess
 import sys
 import time
+import unittest.mock
 from pathlib import Path
 
 import nonobench
@@ -63,6 +64,16 @@ def started(stdout, encoding="utf-8", stderr=subprocess.PIPE, more=("--quiet",))
     env = {**os.environ, "PYTHONPATH": str(Path(nonobench.__file__).resolve().parent.parent), "PYTHONIOENCODING": encoding}
     words = [sys.executable, "-m", "nonobench.check_site", "site", *more]
     return subprocess.run(words, stdout=stdout, stderr=stderr, encoding=encoding, timeout=PATIENCE, env=env, check=False)
+
+
+def test_endings_in_any_letters(site, checked):
+    """They are the same in small and in capital letters, and both; where two files are called alike, small ones count."""
+    pair(site, "a", None, ONE, "Cert", Ppm=CROSS, Givens="given 1 1\n")
+    assert checked("site", "--every-picture") == (0, [])
+    (site / "a.Background").write_text("1,1,1")
+    assert checked("site") == (1, ["site/a.Cert: flaw background; flaw alike . a"])
+    (site / "a.background").write_text("white")
+    assert checked("site") == (0, [])
 
 
 def test_all_is_accepted(site, capsys):
@@ -172,6 +183,27 @@ def test_files_of_a_picture_that_is_called_as_another_one_with_its_suffix(site, 
     assert checked("site", "--givens", "ours") == (1, ["site/one.ppm.cert: certificate UnpublishedGiven at line 2"])
     pair(tmp_path / "ours", "one.ppm.ppm", None, None, givens="given 2 2\n")
     assert checked("site", "--givens", "ours") == (1, ["site/one.ppm.cert: certificate UnpublishedGiven at line 2"])
+
+
+def test_givens_that_may_be_another_pictures_are_not_believed(site, checked, tmp_path):
+    pair(site, "one", CROSS, ONE)
+    pair(tmp_path / "ours", "one", None, None, givens="given 1 1\n")
+    assert checked("site", "--givens", "ours", "--untrusted") == (0, [])
+    (site / "one.PPM").write_text(CROSS)
+    (site / "one.PPM.cert").write_text(ONE)
+    why = "its givens: one.givens may be another puzzle's: call it"
+    assert checked("site", "--givens", "ours", "--untrusted") == (3, [f"site/one.PPM.cert: {why} one.PPM.givens", f"site/one.cert: {why} one.ppm.givens"])
+
+
+def test_folders_are_gone_through_one_after_another(site, checked, tmp_path):
+    """Where nothing in the folder of --givens is of a puzzle, each folder is looked at once more, and not each puzzle's."""
+    for name in range(60):
+        pair(site, f"{name % 6}/{name}")
+    (tmp_path / "ours").mkdir()
+    with unittest.mock.patch.object(finding, "by_small_endings", wraps=finding.by_small_endings) as sorted_out:
+        assert checked("site", "--givens", "ours")[0] == 3
+    assert finding._folder.cache_info().misses <= 2 * 6
+    assert sorted_out.call_count <= 1 + 2 * 2 * 6
 
 
 def test_a_folder_that_cannot_be_searched_is_not_empty(site, checked, tmp_path):
@@ -443,14 +475,14 @@ def test_an_operators_folder_that_changes_meanwhile_is_told(site, checked, tmp_p
         pair(tmp_path / "own", name, None, ONE, givens="given 1 1\n")
     words = ["site", "--jobs", "1"] if option is None else ["site", "--jobs", "1", option, "own"]
     assert checked(*words) == (0, [])
-    real, changes = finding.picture_of, iter((change,))
+    real, changes = finding.found_in, iter((change,))
 
-    def picture_of(*words):
+    def found_in(*words):
         found = real(*words)
         subprocess.run(next(changes, ":"), shell=True, check=True)
         return found
 
-    monkeypatch.setattr(finding, "picture_of", picture_of)
+    monkeypatch.setattr(finding, "found_in", found_in)
     status, lines = checked(*words)
     if option is None:  # a folder that is not asked
         assert (status, lines) == (0, [])
@@ -462,8 +494,8 @@ def test_an_operators_folder_that_changes_meanwhile_is_told(site, checked, tmp_p
 @pytest.mark.parametrize("change", ("rm site/1.ppm", "cp site/1.ppm site/2.ppm", "echo >> site/1.ppm", "touch site/1.givens", "mkdir site/new.cert", "mkdir site/new"))
 def test_a_site_that_changes_meanwhile_is_told(site, checked, monkeypatch, change):
     pair(site, "1", DIAGONAL, ALL)
-    real = finding.picture_of
-    monkeypatch.setattr(finding, "picture_of", lambda *words: [real(*words), subprocess.run(change, shell=True, check=True, cwd=site.parent)][0])
+    real = finding.found_in
+    monkeypatch.setattr(finding, "found_in", lambda *words: [real(*words), subprocess.run(change, shell=True, check=True, cwd=site.parent)][0])
     assert checked("site", "--untrusted")[1][-1] == f"site/: {finding.CHANGED}"
 
 
@@ -471,9 +503,9 @@ def test_a_folder_of_certificates_that_comes_meanwhile_is_told(site, checked, tm
     """What is put into a folder that was there before counts by its ending, as before."""
     pair(site, "in/1", certificate=None)
     pair(tmp_path / "own", "in/1", None)
-    real, status = finding.picture_of, []
+    real, status = finding.found_in, []
     for change in ("touch own/in/notes", "touch site/in/notes", "mkdir own/in/new"):
-        monkeypatch.setattr(finding, "picture_of", lambda *words: [real(*words), subprocess.run(change, shell=True, check=True)][0])
+        monkeypatch.setattr(finding, "found_in", lambda *words: [real(*words), subprocess.run(change, shell=True, check=True)][0])
         status.append(checked("site", "--certificates", "own"))
     assert status == [(0, []), (0, []), (3, [f"{tmp_path}/own/in/: {finding.CHANGED}"])]
 

@@ -169,6 +169,8 @@ class Pictures(unittest.TestCase):
         self.assertEqual(nonobench.picture_of_image(made.getvalue()), b"P3\n2 1\n255\n0 0 0\n7 91 53\n")
         with unittest.mock.patch.object(GifImagePlugin, "LOADING_STRATEGY", GifImagePlugin.LoadingStrategy.RGB_ALWAYS):
             self.assertRaisesRegex(nonobench.ImageFault, "LOADING_STRATEGY", nonobench.picture_of_image, made.getvalue())
+        with unittest.mock.patch.object(Image, "MAX_IMAGE_PIXELS", 0):
+            self.assertRaisesRegex(nonobench.ImageFault, "MAX_IMAGE_PIXELS", nonobench.picture_of_image, made.getvalue())
 
 
 if __name__ == "__main__":

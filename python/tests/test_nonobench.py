@@ -220,6 +220,14 @@ class Answers(unittest.TestCase):
                 nonobench.assess(whole, wrong, published=ANY_GIVEN)
         self.assertEqual(len(_answers.givens_of(head + b"given 1 1\n" * 14401)), 14400)
 
+    def test_what_is_wrong_with_givens_of_clues_is_told_of_them(self):
+        """Of a .non text, whichever givens a certificate names: the puzzle itself is not at fault."""
+        clues = b'width 2\nheight 1\nrows\n1\ncolumns\n1\n0\ngoal "10"\n'
+        self.assertTrue(nonobench.assess(clues, non=True).is_fit)
+        for lines, why in ((b"given 9 9\n", "Place at line 1"), (b"given 1 1\n" * 2, "Repeated at line 2")):
+            with self.assertRaisesRegex(GivensFault, f"^givens {why}$"):
+                nonobench.assess(clues, b"nonocert 2\n" + lines + b"done\n", published=ANY_GIVEN, non=True)
+
     def test_certificates_with_a_byte_changed(self):
         source, picture, count = random.Random(1), picture_of("a./.b"), 0
         right = nonobench.prove(picture).certificate
@@ -258,6 +266,8 @@ class Answers(unittest.TestCase):
         for allowance, name in (("5", "str"), (5.0, "float"), ([], "list")):
             with self.assertRaisesRegex(TypeError, f"^allowance must be a whole number, not {name}$"):
                 nonobench.verdict(DIAGONAL, allowance)
+        with self.assertRaisesRegex(TypeError, "^non must be True or False, not str$"):
+            nonobench.assess(DIAGONAL, non="non")
         for allowance in (-1, 100000):
             with self.assertRaises(ValueError):
                 nonobench.verdict(DIAGONAL, allowance)
@@ -337,6 +347,8 @@ class Answers(unittest.TestCase):
         self.assertEqual(nonobench.colour_shown((1, 3, 5), 510), (1, 2, 3))
         self.assertEqual(nonobench.colour_shown((0, 32767, 65535), 65535), (0, 127, 255))
         self.assertEqual(nonobench.colour_shown((0, 1, 1), 1), (0, 255, 255))
+        for colour, maxval, why in (((0, 0, 0), 0, "maxval must be"), ((0, 0, 0), 65536, "maxval must be"), ((1, 2, 3), 2, "colour must be"), ((1, 2), 2, "colour must be")):
+            self.assertRaisesRegex(ValueError, why, nonobench.colour_shown, colour, maxval)
 
     def test_version(self):
         """That of the header, or of an older release that is tried."""

@@ -3,6 +3,7 @@
 INTERRUPTS=number is how many calls are interrupted, else 200; the seed is 1 (SEED=number).
 """
 
+import contextlib
 import gc
 import os
 import random
@@ -41,6 +42,26 @@ ENDLESS = f"P3 60 60 1 {' '.join(INKS[(at // 60 + at % 60) % 4] for at in range(
 
 class Workers(unittest.TestCase):
     """Questions to another process."""
+
+    def test_a_process_is_ended_whatever_a_handler_raises(self):
+        """It may be raised between any two steps, also while the finalizer of the process has forgotten it and not yet begun."""
+        worker = nonobench.Worker(seconds=300)
+        worker.check(TILE, worker.certify(TILE))
+        process = worker._process
+
+        def interrupt(frame, event, _):
+            if frame.f_code is type(process.end).__call__.__code__ and event == "line" and not process.end.alive:
+                raise KeyboardInterrupt
+            return interrupt
+
+        before = sys.gettrace()
+        sys.settrace(interrupt)
+        try:
+            with contextlib.suppress(KeyboardInterrupt):
+                worker.close()
+        finally:
+            sys.settrace(before)
+        self.assertFalse(is_running(process.pid))
 
     def test_answers_and_faults(self):
         with nonobench.Worker(seconds=300) as worker:

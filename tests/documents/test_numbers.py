@@ -124,7 +124,7 @@ STATED = [
     ('examples/site/README.md', 'Above N connections one is closed', 1, [(EXAMPLE, 'MOST_OPEN =')]),
     ('examples/site/README.md', 'If over N wait for answers', 1, [(EXAMPLE, 'MOST_WAITING =')]),
     # Twice the bytes of an upload.
-    ('examples/site/README.md', 'A body of more than N MiB', MIB // 2, [(EXAMPLE, 'MAX_CONTENT_LENGTH=')]),
+    ('examples/site/README.md', 'A body above N MiB', MIB // 2, [(EXAMPLE, 'MAX_CONTENT_LENGTH=')]),
     ('examples/site/README.md', 'An upload has at most N MiB', MIB, [(EXAMPLE, 'MAX_CONTENT_LENGTH=')]),
     ('examples/site/README.md', 'each is ended after N seconds', 1, [(EXAMPLE, ' SECONDS=')]),
     ('examples/site/README.md', 'in a process with N GiB', 1024 * MIB, [(EXAMPLE, ' MEMORY=')]),

@@ -203,6 +203,18 @@ def test_npm_example(npm, pairs):
     prints(1, 'refused: certificate UnpublishedGiven at line 2', ['node', npm / 'check_upload.mjs', *files['all']])
 
 
+@pytest.mark.parametrize('text', ['import', None])
+def test_npm_example_of_a_package_that_is_damaged(npm, pairs, tmp_path, text):
+    """That is no fault of the upload: a module of the package is cut off, or gone."""
+    shutil.copytree(npm / 'node_modules', tmp_path / 'node_modules')
+    shutil.copy(EXAMPLES / 'check_upload.mjs', tmp_path)
+    module = tmp_path / 'node_modules' / 'nonobench' / 'node.mjs'
+    module.unlink() if text is None else module.write_text(text)
+    run = clean(['node', tmp_path / 'check_upload.mjs', *pairs[0]['good']])
+    assert run.status == 3
+    assert run.said.startswith(b'check_upload: the package nonobench cannot be read: ')
+
+
 def test_npm_types(npm):
     needs('tsc')
     shutil.copy(TRIALS / 'types.mts', npm)

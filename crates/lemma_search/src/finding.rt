@@ -22,12 +22,12 @@ pub enum Found {
     Proof(Vec<CertLine>),
     /// Another picture.
     Other(Picture),
-    /// The search reached its bounds, or its steps gave no proof.
+    /// The search reached its bounds, its steps gave no proof, or it aimed and there is no other picture.
     Nothing,
 }
 
 /// Searches for another picture with the clues and the givens of a picture, and learns a lemma from each conflict. Where there is
-/// none, it answers the lines of a proof.
+/// none, it answers the lines of a proof, or nothing if it aims.
 pub fn learn<E: LineEngine>(
     alloc: Global,
     engine: &mut E,
@@ -43,11 +43,12 @@ pub fn learn<E: LineEngine>(
     let mut search = Search::new(alloc, &board)?;
     if effort.aims {
         search.furthest = 0;
+        search.log.keeps = false;
     }
     match search.run(alloc, engine, effort)? {
         Ended::Other(other) => Ok(Found::Other(other)),
-        Ended::Undecided => Ok(Found::Nothing),
-        Ended::Unique => tell(alloc, engine, &search),
+        Ended::Unique if !effort.aims => tell(alloc, engine, &search),
+        Ended::Unique | Ended::Undecided => Ok(Found::Nothing),
     }
 }
 

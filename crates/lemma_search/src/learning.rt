@@ -23,7 +23,7 @@ impl<'a> Search<'a> {
         self.back_to(level)?;
         let depth = self.count_levels();
         let number = self.store.add(&self.learning.literals, depth)?;
-        self.log_lemma(number)?;
+        self.log.add_lemma(number, &self.learning.used)?;
         let Some(first) = self.learning.literals.first().copied() else {
             return Ok(None);
         };
@@ -232,14 +232,5 @@ impl<'a> Search<'a> {
             }
         }
         last
-    }
-
-    // Logs a lemma, with the reasons in the order in which they are used.
-    fn log_lemma(&mut self, number: u32) -> Result<(), AllocError> {
-        let start = self.log.hints.len();
-        for (_, reason) in self.learning.used.iter().rev() {
-            self.log.hints.push(*reason)?;
-        }
-        self.log.add_lemma(number, start)
     }
 }

@@ -14,9 +14,10 @@ pub(crate) enum Step {
     Done,
 }
 
-/// The steps so far, and the hints of all lemmas.
+/// The steps so far, and the hints of all lemmas, where lemmas are kept.
 #[derive(Drop)]
 pub(crate) struct Log {
+    pub keeps: bool,
     pub steps: Vec<Step>,
     pub hints: Vec<Reason>,
 }
@@ -25,16 +26,23 @@ impl Log {
     /// An empty log.
     pub(crate) fn new(alloc: Global) -> Log {
         Log {
+            keeps: true,
             steps: Vec::new(alloc),
             hints: Vec::new(alloc),
         }
     }
 
-    /// Adds a lemma, whose hints are those from a place on.
-    pub(crate) fn add_lemma(&mut self, number: u32, start: usize) -> Result<(), AllocError> {
+    /// Adds a lemma, with the reasons by which its denial is refuted, the latest first.
+    pub(crate) fn add_lemma(&mut self, lemma: u32, by: &[(u32, Reason)]) -> Result<(), AllocError> {
+        if !self.keeps {
+            return Ok(());
+        }
+        let start = self.hints.len();
+        for (_, reason) in by.iter().rev() {
+            self.hints.push(*reason)?;
+        }
         let end = self.hints.len();
-        self.steps.push(Step::Lemma(number, Span { start, end }))?;
-        Ok(())
+        self.add(Step::Lemma(lemma, Span { start, end }))
     }
 
     pub(crate) fn add(&mut self, step: Step) -> Result<(), AllocError> {

@@ -13,7 +13,7 @@ from concurrent.futures import ThreadPoolExecutor
 from typing import Callable, Iterator, NamedTuple, Optional
 
 from ._library import FOLDER
-from .collection.finding import ENDINGS, SUFFIXES, called_beside
+from .collection.finding import ENDINGS, SUFFIXES
 from .collection.puzzles import MOST_BYTES
 from .collection.rows import printable
 
@@ -53,18 +53,17 @@ def row_of(status: int, text: str, said: str) -> Row:
     return Row(first, "".join(grades), tuple(flaws), status)
 
 
-def lying(path: str, ending: str, is_shared: bool = True) -> Optional[str]:
+def lying(path: str, ending: str) -> Optional[str]:
     """What lies beside a puzzle with an ending, called as elsewhere; one called without the puzzle's suffix may be shared."""
     folder, name = os.path.split(os.path.abspath(path))
-    stem, own = os.path.splitext(name)
+    stem = os.path.splitext(name)[0]
 
     def lies(called: str) -> bool:
         return os.path.lexists(os.path.join(folder, called))
 
     # What is called after the whole name is that of the puzzle with this name and a suffix, where there is one.
     whole = stem if any(lies(name + suffix) for suffix in SUFFIXES) else name
-    is_only = not any(lies(stem + suffix) for suffix in SUFFIXES - {own.lower()})
-    called = called_beside((whole, stem if is_shared or is_only else whole), f".{ending}")
+    called = [f"{front}.{end}" for front in (whole, stem) for end in (ending, ending.upper())]
     return next((os.path.join(folder, one) for one in called if lies(one)), None)
 
 
@@ -77,7 +76,7 @@ def beside(path: str, ground: Optional[str]) -> list[str]:
         if len(held) > MOST_BYTES:
             raise ValueError(f"its background: more than {MOST_BYTES} bytes")
         ground = held.strip().decode("ascii", "replace")
-    certificate = next(filter(None, (lying(path, ending, False) for ending in ENDINGS)), None)
+    certificate = next(filter(None, (lying(path, ending) for ending in ENDINGS)), None)
     named = {"--givens": lying(path, "givens"), "--background": None if ground == "white" else ground, "--certificate": certificate}
     return [word for option, value in named.items() if value is not None for word in (option, value)]
 

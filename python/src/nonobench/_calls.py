@@ -76,6 +76,8 @@ class Questions:
         puzzle, held = bytes_of(puzzle), None if certificate is None else bytes_of(certificate)
         givens = _file_of(givens_of(held or b"") if isinstance(published, AnyGiven) else published)
         _allow(allowance)
+        if not isinstance(non, int):
+            raise TypeError(f"non must be True or False, not {type(non).__name__}")
         if non and background is not None:
             raise ValueError("background goes with a P3 text")
         numbers = non, NO_ALLOWANCE if allowance is None else allowance, held is not None
@@ -83,7 +85,7 @@ class Questions:
         try:
             (text,) = self._ask(ASSESS, puzzle, background, rest, givens or b"")
         except GivensFault:
-            if held is not None and isinstance(published, AnyGiven):
+            if held is not None and isinstance(published, AnyGiven) and not non:
                 self.check(puzzle, held, background, ANY_GIVEN)  # which says what is wrong with the certificate that names them
             raise
         return assessment_of(text.decode("ascii"), givens_of(held or b""))
@@ -192,10 +194,10 @@ def _allow(allowance: Optional[int]) -> bytes:
     return f"allow {allowance:d}\n".encode("ascii")
 
 
-def triple_of(background: Colour, most: int = MOST_SAMPLE) -> Colour:
-    """A background as three numbers from 0 to another one."""
+def triple_of(colour: Colour, most: int = MOST_SAMPLE, name: str = "background") -> Colour:
+    """A colour as three numbers from 0 to another one."""
     with contextlib.suppress(TypeError, ValueError):
-        red, green, blue = map(operator.index, background)
+        red, green, blue = map(operator.index, colour)
         if 0 <= min(red, green, blue) <= max(red, green, blue) <= most:
             return red, green, blue
-    raise ValueError(f"background must be a triple of numbers from 0 to {most}")
+    raise ValueError(f"{name} must be a triple of numbers from 0 to {most}")

@@ -15,12 +15,12 @@ import zlib
 from typing import Callable, Iterator, NamedTuple, NoReturn, Optional
 
 from ._answers import ImageFault
-from ._calls import MOST_CELLS, Bytes, Colour, bytes_of, picture_of, triple_of
+from ._calls import MOST_CELLS, MOST_SAMPLE, Bytes, Colour, bytes_of, picture_of, triple_of
 
 WHITE: Colour = (255, 255, 255)
 DEEP, PROFILE, GAMMA, FRAMES = "samples of 16 bits", "a colour profile", "a gamma", "several frames"
 SMALL, HALF, LOSSY, TURNED = "a frame smaller than its screen", "half transparent", "lossy", "turned by its orientation"
-SCALED = "scaled by its Exif"
+SCALED, BOUNDED = "scaled by its Exif", "more pixels than Pillow's MAX_IMAGE_PIXELS lets it read"
 DAMAGED, UNKNOWN = "damaged", "of a kind that is not read"
 
 Pixel = tuple[int, ...]  # red, green, blue, and its opacity, 0 or 255
@@ -41,8 +41,10 @@ class Pixels(NamedTuple):
 
 
 def colour_shown(colour: Colour, maxval: int) -> Colour:
-    """A colour of samples from 0 to maxval as it is shown: from 0 to 255, rounded, halves up."""
-    red, green, blue = ((510 * sample + maxval) // (2 * maxval) for sample in colour)
+    """A colour of samples from 0 to maxval as it is shown: from 0 to 255, rounded, halves up. ValueError: it is none of these."""
+    if maxval not in range(1, MOST_SAMPLE + 1):
+        raise ValueError(f"maxval must be a whole number from 1 to {MOST_SAMPLE}")
+    red, green, blue = ((510 * sample + maxval) // (2 * maxval) for sample in triple_of(colour, maxval, "colour"))
     return red, green, blue
 
 
@@ -69,8 +71,8 @@ def pixels_of(data: bytes) -> Pixels:
         pixels = read(data)
     except (ImageFault, MemoryError, ImportError):
         raise
-    except Exception:  # whatever a decoder makes of a stranger's bytes
-        _refuse(DAMAGED)
+    except Exception as error:  # whatever a decoder makes of a stranger's bytes
+        _refuse(BOUNDED if type(error).__name__.startswith("DecompressionBomb") else DAMAGED)
     if any(pixel[3] not in (0, 255) for pixel in pixels.cells):
         _refuse(HALF)
     return Pixels(pixels.columns, [pixel if pixel[3] else CLEAR for pixel in pixels.cells])
@@ -85,10 +87,9 @@ def most_of(data: bytes) -> int:
 def prepare() -> None:
     """Loads Pillow with its readers, if it is there. Within a bound of memory it might leave one out, for as long as the process lives."""
     with contextlib.suppress(ImportError):
-        from PIL import Image, WebPImagePlugin  # type: ignore[import]
+        import PIL.WebPImagePlugin  # type: ignore[import]
 
-        assert WebPImagePlugin
-        Image.preinit()
+        PIL.Image.preinit()
 
 
 def _reader_of(data: bytes) -> Optional[Callable[[bytes], Pixels]]:
@@ -384,8 +385,8 @@ def _pnm(data: bytes) -> Pixels:
     _need(len(samples) == rows * columns * step and max(samples) <= most)
     if kind in (1, 4):
         samples = [1 - sample for sample in samples]
-    triples = [samples[at : at + 3] if step == 3 else samples[at : at + 1] * 3 for at in range(0, len(samples), step)]
-    return Pixels(columns, [(*colour_shown((red, green, blue), most), 255) for red, green, blue in triples])
+    values = [bytes(samples[at : at + step]) * (3 // step) for at in range(0, len(samples), step)]
+    return _painted(columns, values, lambda value: (*colour_shown((value[0], value[1], value[2]), most), 255))
 
 
 def plain_words(text: bytes, most: int) -> list[bytes]:

@@ -155,7 +155,7 @@ class Child:
 
     def status(self) -> int:
         """Ends the process, and answers its status."""
-        self.end()
+        uninterrupted(self.end)
         return -9 if self.is_there() else self._process.returncode
 
     def has_begun(self) -> bool:

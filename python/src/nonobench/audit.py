@@ -3,7 +3,6 @@
 import os
 import sys
 
-
 if __name__ != "__main__":
     # The package has a call of this name too, and an import of this module must not take its place.
     from ._calls import audit

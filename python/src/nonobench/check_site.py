@@ -12,7 +12,7 @@ import os
 import sys
 import traceback
 from concurrent.futures import ThreadPoolExecutor
-from typing import Iterator, NamedTuple, Optional
+from typing import Iterable, Iterator, NamedTuple, Optional
 
 from . import _loading
 from ._answers import Fault, refused_flaws
@@ -67,8 +67,6 @@ class Site:
         finding.note(told.certificates and self._places.certificates, (*finding.HELD, finding.FOLDERS))
         self._shard, self._givens, self._is_told = told.shard, told.givens, False
         self.unsearched: list[Answer] = []
-        self.unread: list[Answer] = []  # in whose place another certificate is
-        self.bare: list[Answer] = []  # pictures without any
 
     def certificates(self) -> list[str]:
         """The certificates of a share, in order, one folder after another. What is called so and is no folder is among them.
@@ -77,11 +75,11 @@ class Site:
         found = {name for name in below[self._certificates] if name.lower().endswith(finding.HELD)}
         newer = {os.path.splitext(name)[0] for name in found if name.lower().endswith(finding.HELD[0])}
         older = {name for name in found if not name.lower().endswith(finding.HELD[0]) and os.path.splitext(name)[0] in newer}
-        self.unread += [Answer(os.path.join(self._certificates, name), ACCEPTED, "not read, since a .cert is there") for name in sorted(older)]
-        pictures = {name for name in below[self._site] if name.endswith((".ppm", ".PPM"))}
-        bare = pictures.difference(finding.picture_called(name.rpartition(".")[0], pictures, self._places.certificates != self._folder) for name in found)
-        self.bare += [Answer(os.path.join(self._site, name), REFUSED, "no certificate") for name in self._share(bare)]
-        self.found, self._bare = found - older, bare
+        self.unread = [Answer(os.path.join(self._certificates, name), ACCEPTED, "not read, since a .cert is there") for name in sorted(older)]
+        self._pictures = frozenset(name for name in below[self._site] if name.lower().endswith(".ppm"))
+        self._small = finding.by_small_endings(self._pictures)
+        self.found, self._bare = found - older, self._pictures.difference(map(self._called, found))
+        self.bare = [Answer(os.path.join(self._site, name), REFUSED, "no certificate") for name in self._share(self._bare)]
         return self._share(self.found)
 
     def _below(self, outer: str) -> Iterator[str]:
@@ -102,7 +100,7 @@ class Site:
             except OSError as error:
                 self.unsearched.append(Answer(os.path.join(place, ""), UNREAD, error.strerror))
 
-    def _share(self, names: set[str]) -> list[str]:
+    def _share(self, names: Iterable[str]) -> list[str]:
         """Those of a share, in order: a certificate that comes in the place of an older one is in its share."""
         return [name for name in sorted(names, key=os.path.split) if finding.is_in_share(finding.shown(os.path.splitext(name)[0]), self._shard)]
 
@@ -114,14 +112,18 @@ class Site:
             self._is_told = self._is_told or found.is_told()
             yield file, certificate, found
 
+    def _called(self, name: str) -> str:
+        """The picture that a certificate is for, or would be."""
+        return finding.picture_called(name.rpartition(".")[0], self._pictures, self._small, self._places.certificates != self._folder)
+
     def _picture(self, name: str) -> finding.Found:
         """The picture called so but for the ending, with what goes with it."""
-        folder = finding.pictures_in(self._folder, os.path.join(os.path.dirname(name), ""), self._places)
-        return finding.picture_of(folder, os.path.basename(name).rpartition(".")[0])
+        way, called = os.path.split(self._called(name))
+        return finding.found_in(finding.pictures_in(self._folder, os.path.join(way, ""), self._places), called)
 
     def late(self) -> Iterator[Answer]:
-        """What is known once all pairs are answered."""
-        if self._givens is not None and not (self._is_told or any(self._picture(name).is_told() for name in self.found | self._bare)):
+        """What is known once all pairs are answered. Folders are gone through one after another, since few are held."""
+        if self._givens is not None and not (self._is_told or any(self._picture(name).is_told() for name in sorted(self.found | self._bare, key=os.path.split))):
             yield Answer(os.path.join(self._givens, ""), UNREAD, f"no {finding.UNTOLD} in it is of one of these puzzles")
         yield from (Answer(folder, UNREAD, finding.CHANGED) for folder in finding.changed())
 
@@ -151,6 +153,7 @@ class Checks:
         (file, path, found), certificate = pair, b""
         worker = self._workers.pop()
         try:
+            need(not found.why, found.why)
             certificate = bytes_of(path)
             givens = b"" if found.givens is None else bytes_of(found.givens, "its givens: ")
             said = worker.assess(bytes_of(found.path, "its picture: "), certificate, _background(found.background), givens)

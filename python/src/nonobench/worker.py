@@ -76,7 +76,7 @@ class Worker(Questions):
         with self._lock:
             process, self._process = self._process, None
             if process:
-                process.end()
+                uninterrupted(process.end)
             if self._asked:
                 self._asked.stop()
 
@@ -93,7 +93,7 @@ class Worker(Questions):
             except BaseException as error:
                 if process:
                     error = process.why() if isinstance(error, EOFError) else error
-                    process.end()
+                    uninterrupted(process.end)
                 raise error
             finally:
                 self._asked = before

@@ -22,7 +22,6 @@ from .rows import Row, graded, judged_row, noted, row_of, text_of, unwritten
 if TYPE_CHECKING:
     from .workers import Answer
 
-
 # What a row has that its puzzle and its certificate do not tell. The rest is compared where a row is kept.
 UNBOUND = ("file", "puzzle", "more", "seconds", "content", "sha256", "made", "limit")
 

@@ -8,6 +8,7 @@ from __future__ import annotations
 import asyncio
 import contextlib
 import itertools
+import logging
 import marshal
 import socket
 import zlib
@@ -80,6 +81,7 @@ class Cluster:
     def close(self) -> None:
         """Lets the scheduler go; what it was still to judge is forgotten."""
         if self._client is not None:
+            logging.getLogger("asyncio").disabled = True  # Dask ends its loop beside a wait of its own, of which this would tell
             self._client.close(timeout=2)
 
     def _result(self, future: Any, told: list[Answer]) -> Optional[list[Answer]]:

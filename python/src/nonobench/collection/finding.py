@@ -11,7 +11,7 @@ import os
 import re
 from collections import Counter
 from pathlib import Path
-from typing import Any, Iterable, Iterator, NamedTuple, Optional
+from typing import Any, Iterator, NamedTuple, Optional
 
 ENDINGS = ("cert", "proof")  # of certificates: the second is an older one, and counts where a puzzle has none of the first
 SUFFIXES = frozenset((".ppm", ".pgm", ".pbm", ".pnm", ".png", ".gif", ".bmp", ".webp", ".non", ".xml"))
@@ -71,7 +71,7 @@ class Folder(NamedTuple):
     taken: Names  # what no certificate or picture is called: folders are, or a puzzle of a file with several may be
     held: dict[str, list[Named]]  # the certificates by names without endings, and by those without numbers and with / behind
     is_held_apart: bool  # whether that is another folder than that of the puzzles
-    told: Optional[Names]  # the names where givens and backgrounds lie; nothing where they cannot be listed
+    told: Optional[dict[str, str]]  # the names where givens and backgrounds lie, by small endings; nothing where they cannot be listed
     told_in: str
     is_apart: bool  # the same of that
     unlisted: tuple[Named, ...]  # a folder that cannot be listed stands for what lies there: it cannot be read either
@@ -182,7 +182,7 @@ def find(paths: list[str], places: Places = Places(), is_anew: bool = True) -> I
                 held.pop()
             if not held or held[-1].prefix != folder:
                 held.append(_folder(folder, real, "", _listed(real, "", ()), places))
-            yield _found(held[-1], os.path.basename(path))
+            yield found_in(held[-1], os.path.basename(path))
 
 
 def real_place(path: str) -> str:
@@ -211,7 +211,7 @@ def _below(real: str, prefix: str, front: str, places: Places, depth: int = 0) -
         if folders[name]:
             yield from _below(real + name + "/", prefix + name + "/", front + name + "/", places, depth + 1)
         elif os.path.splitext(name)[1].lower() in SUFFIXES:
-            yield _found(folder, name)
+            yield found_in(folder, name)
 
 
 def _scanned(folder: str, ends: tuple[str, ...]) -> Listed:
@@ -286,7 +286,8 @@ def _folder(prefix: str, real: str, front: str, listed: Listed, places: Places) 
         note(way, of)
     beside = frozenset() if places.is_untrusted else listed
     held = beside if places.certificates is None else _listed(places.certificates, front, ends[0])
-    told = _names(beside if places.givens is None else _listed(places.givens, front, ends[1]), not places.is_site)
+    there = _names(beside if places.givens is None else _listed(places.givens, front, ends[1]), not places.is_site)
+    told = None if there is None else by_small_endings(there)
     unlisted = [place or "." for place, one in ((real, listed), (held_in, held)) if one is None]
     files = _names(listed, False) or NONE
     puzzles = [(stem, suffix.lower()) for stem, suffix in (os.path.splitext(name) for name in files) if suffix.lower() in SUFFIXES]
@@ -304,19 +305,19 @@ def _folder(prefix: str, real: str, front: str, listed: Listed, places: Places) 
 def pictures_in(way: str, front: str, places: Places) -> Folder:
     """A folder in another one, of which the plain PPM pictures alone count as puzzles."""
     listed, real = _listed(way, front, ()), os.path.join(way, front)
-    kept = None if listed is None else frozenset(one for one in listed if one[1] or one[0].endswith((".ppm", ".PPM")))
+    kept = None if listed is None else frozenset(one for one in listed if one[1] or one[0].lower().endswith(".ppm"))
     return _folder(real, real, front, kept, places)
 
 
-def picture_called(called: str, names: Iterable[str], is_apart: bool) -> str:
+def by_small_endings(names: Names) -> dict[str, str]:
+    """Names by what they are with small letters in their endings; of those that are then alike the one that is so."""
+    return {front + ending.lower(): name for name in sorted(names) for front, ending in [os.path.splitext(name)]}
+
+
+def picture_called(called: str, names: Names, small: dict[str, str], is_apart: bool) -> str:
     """What the picture of a site's certificate is called, or would be: NAME.ppm of NAME.cert, else NAME; apart NAME first, as for an audit."""
-    short = next((way for way in called_beside([called], ".ppm") if way in names), f"{called}.ppm")
+    short = small.get(f"{called}.ppm", f"{called}.ppm")
     return called if called in names and os.path.splitext(called)[1] and (is_apart or short not in names) else short
-
-
-def picture_of(folder: Folder, called: str) -> Found:
-    """The picture that a site's certificate is for, or would be, with what goes with it."""
-    return _found(folder, picture_called(called, folder.names, folder.is_held_apart))
 
 
 def begin(*ways: Optional[str]) -> None:
@@ -327,7 +328,8 @@ def begin(*ways: Optional[str]) -> None:
         forget()
 
 
-def _found(folder: Folder, name: str) -> Found:
+def found_in(folder: Folder, name: str) -> Found:
+    """A puzzle's file in a folder, with what goes with it."""
     stem = os.path.splitext(name)[0]
     called = stem if _is_own(folder, name) else name if name not in folder.taken and name in _ways(folder, name) else name + NO_NAME
     beside = [*folder.unlisted, *_certificates(folder, name)]
@@ -342,26 +344,24 @@ def _ways(folder: Folder, name: str) -> list[str]:
     """What goes with a file is called after its whole name, or its stem; if it has no ending of puzzles, not as what is another's."""
 
     def is_others(way: str) -> bool:
-        number = _NUMBER.fullmatch(way)
-        return folder.stems[way] > 0 or _whole(folder, way) != "" or number is not None and number[1] in folder.sets
+        return folder.stems[way] > 0 or _whole(folder, way) != "" or _is_in_set(folder, way)
 
     ways = dict.fromkeys((name, os.path.splitext(name)[0]))
     return [way for way in ways if _is_puzzle(folder, name) or not is_others(way)]
 
 
 def _told(folder: Folder, name: str, end: str) -> tuple[Optional[str], str]:
-    """The givens of a puzzle, or its background; and why it is not known whether they are. In a folder of their own a name with an ending
-    of puzzles is a whole one, whatever is there, and those after a stem are of the only puzzle with it; beside puzzles those after both
-    are of all with the stem."""
+    """The givens of a puzzle, or its background; and why it is not known whether they are. Beside puzzles those after the whole name and
+    after the stem are of all with the stem. In a folder of their own one name is of one puzzle: what could be another's is an error."""
     if folder.told is None:
         return (folder.told_in or ".") if end == TOLD[0] else None, ""
     stem, ours = os.path.splitext(name)[0], _ways(folder, name)
-    ways = [name, name if os.path.splitext(stem)[1].lower() in SUFFIXES else stem] if folder.is_apart else [way for way in ours if way == stem or not folder.stems[name]]
-    called = next((one for one in called_beside(ways, end) if one in folder.told), None)
-    if called is None:
-        return None, ""
+    ways = [name, stem] if folder.is_apart else [way for way in ours if way == stem or not folder.stems[name]]
+    called = next(filter(None, (folder.told.get(way + end) for way in ways)), "")
     of = os.path.splitext(called)[0]
-    is_shared = folder.is_apart and (of not in ours or of != name and not _is_alone(folder, name))
+    if not called or folder.is_apart and _whole(folder, of) not in ("", name):
+        return None, ""
+    is_shared = folder.is_apart and (of not in ours or of != name and (_is_whole(of) or _is_in_set(folder, of) or not _is_alone(folder, name)))
     advice = f": call it {shown(name + end)}" if of != name else ""
     return folder.told_in + called, f"its {end[1:]}: {shown(called)} may be another puzzle's{advice}" if is_shared else ""
 
@@ -381,10 +381,10 @@ def _is_others(folder: Folder, name: str, called: str) -> bool:
     """Whether a certificate that a puzzle's could be called like is another's: of that with this whole name, but beside puzzles of the only
     one with this stem, if the former has its stem for itself, or a certificate that is called after it.
     """
-    whole, number = _whole(folder, called), _NUMBER.fullmatch(called)
+    whole = _whole(folder, called)
     if folder.is_held_apart or not whole:
         return whole not in ("", name) or not folder.is_held_apart and called != os.path.splitext(name)[0] and folder.stems[called] > 0
-    is_stem = folder.stems[called] == 1 or number is not None and number[1] in folder.sets and folder.stems[number[1]] == 1
+    is_stem = folder.stems[called] == 1 or _is_in_set(folder, called) and folder.stems[called.rpartition(".")[0]] == 1
     of = os.path.splitext(whole)[0]
     is_other = _is_own(folder, whole) or _is_alone(folder, whole) and of in folder.held and not _is_others(folder, whole, of)
     return (whole == name) == (is_stem and is_other)
@@ -399,23 +399,33 @@ def _is_alone(folder: Folder, name: str) -> bool:
 def _is_own(folder: Folder, name: str) -> bool:
     """Whether a puzzle's certificate may be called after its stem: no other puzzle's could be called so, and no folder is."""
     stem, suffix = os.path.splitext(name)
-    if not _is_alone(folder, name) or stem in folder.taken or _whole(folder, stem) or stem not in _ways(folder, name):
+    if not _is_alone(folder, name) or stem in folder.taken or _is_whole(stem) or stem not in _ways(folder, name):
         return False
     return suffix.lower() != ".xml" or stem not in folder.numbers
 
 
 def _whole(folder: Folder, called: str) -> str:
     """The file after whose whole name a certificate is called; nothing where there is none."""
+    return next((name for name in (called, _set_of(called)) if _is_puzzle(folder, name)), "")
+
+
+def _is_whole(called: str) -> bool:
+    """Whether a name is a whole one, whatever is there: it has an ending of puzzles, or is that of one in a set (SET.xml.3)."""
+    return os.path.splitext(_set_of(called) or called)[1].lower() in SUFFIXES
+
+
+def _is_in_set(folder: Folder, called: str) -> bool:
+    """Whether a name is that of a puzzle in a set, by the stem of the set."""
     number = _NUMBER.fullmatch(called)
-    of = number[1] if number and number[1].lower().endswith(".xml") else ""
-    return next((name for name in (called, of) if _is_puzzle(folder, name)), "")
+    return number is not None and number[1] in folder.sets
+
+
+def _set_of(called: str) -> str:
+    """The set after whose whole name and a number one of its puzzles is called; nothing otherwise."""
+    number = _NUMBER.fullmatch(called)
+    return number[1] if number and number[1].lower().endswith(".xml") else ""
 
 
 def _is_puzzle(folder: Folder, name: str) -> bool:
     """Whether a name is that of a puzzle's file in a folder."""
     return name in folder.names and os.path.splitext(name)[1].lower() in SUFFIXES
-
-
-def called_beside(ways: Iterable[str], end: str) -> list[str]:
-    """What a file that goes with a puzzle may be called, its ending in small or capital letters: NAME.png.cert, then NAME.cert."""
-    return [front + ending for front in dict.fromkeys(ways) for ending in (end, end.upper())]

@@ -77,7 +77,7 @@ def puzzles_of(
         puzzle = Puzzle(data, background=first_triple(data) if ground.is_corner else ground.triple)
     elif is_image(data):
         puzzle = _puzzle_of_image(data, ground)
-    elif data.startswith((b"\xff\xfe", b"\xfe\xff", b"<\0", b"\0<")) or data.removeprefix(b"\xef\xbb\xbf").lstrip()[:1] == b"<":  # XML in any coding
+    elif _is_xml(data):
         puzzles = webpbn.puzzles_of_xml(data, tell)
         if givens is None:
             yield from puzzles if suffix == ".xml" else [_only(puzzles, "several puzzles, and a name that does not end in .xml")]
@@ -122,6 +122,11 @@ def grounded(puzzles: Iterator[Union[Puzzle, Unreadable]], ground: Ground) -> It
         if isinstance(puzzle, Puzzle) and not ground.is_corner and (puzzle.background or WHITE) != (ground.triple or WHITE):
             puzzle = Unreadable("the file of its background names another colour than the puzzle has")
         yield puzzle
+
+
+def _is_xml(data: bytes) -> bool:
+    """Whether a text begins as XML does, in whichever coding."""
+    return data.startswith((b"\xff\xfe", b"\xfe\xff", b"<\0", b"\0<")) or data.removeprefix(b"\xef\xbb\xbf").lstrip()[:1] == b"<"
 
 
 def first_triple(data: bytes) -> Optional[Triple]:

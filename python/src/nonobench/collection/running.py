@@ -7,6 +7,7 @@ import math
 import os
 import signal
 import sys
+import tempfile
 import threading
 import time
 import traceback
@@ -27,7 +28,7 @@ from .workers import Answer, Broken, Pool
 MOST_WAITING = 64 << 20  # bytes of rows that wait for one before them
 EACH = 256  # bytes of what is kept of a row without its text, about
 READ = 5.0  # seconds that who reads has for what is written when a run is stopped
-BEHIND = 1.0  # seconds after which rows that wait for one before them are in the file of rows
+BEHIND = 1.0  # seconds after which rows that wait for one before them are in a file
 
 OLD = "it stays, though the puzzle was not found unique"
 UNLISTED = "of its rows stay as they were, of files below a folder that cannot be listed"
@@ -75,7 +76,8 @@ def main(words: Optional[list[str]] = None) -> int:
     Stopped.is_held, Stopped.came, Output.until = False, 0, math.inf
     try:
         for number in (signal.SIGINT, signal.SIGTERM):
-            signal.signal(number, _stop)
+            if signal.getsignal(number) != signal.SIG_IGN:  # as Ctrl-C is for what runs behind a shell
+                signal.signal(number, _stop)
         try:
             options = options_of(sys.argv[1:] if words is None else words)
             return Run(options).merge() if options.is_merge else Run(options).audit()
@@ -328,9 +330,10 @@ class Run:
     def _tick(self) -> None:
         """Does what is done now and then: rows of the file that comes next are shown before it is complete."""
         self._deliver_waiting(self._next)
-        if self._lines is not None and self._lines.has_places and time.monotonic() - self._since > BEHIND:
+        if self._fresh and time.monotonic() - self._since > BEHIND:
+            lines = self._places()
             for number, first in self._fresh.items():
-                self._waiting[number][first:] = [self._placed(answer, self._lines) for answer in self._waiting[number][first:]]
+                self._waiting[number][first:] = [self._placed(answer, lines) for answer in self._waiting[number][first:]]
             self._fresh.clear()
         for sink in self._sinks:
             sink.flush()
@@ -338,8 +341,14 @@ class Run:
         if len(self._sinks) == 1 and getattr(self._sinks[0], "is_closed", False):
             raise Failure(CLOSED)
 
+    def _places(self) -> Lines:
+        """Where rows wait for those before them: in the file of rows, or if there is none that is read again, in one for this run."""
+        if self._lines is None or not self._lines.has_places:
+            self._lines = Lines(self._stack.enter_context(tempfile.NamedTemporaryFile()).name, False)
+        return self._lines
+
     def _placed(self, answer: Answer, lines: Lines) -> Answer:
-        """An answer whose row is in the file of rows alone, though rows before it are missing there: it is put in order in the end."""
+        """An answer whose row is in such a file alone, though rows before it are missing there: it is put in order in the end."""
         if answer.verdict in ("same", "none"):
             return answer
         placed = answer._replace(text="", certificate="", place=lines.place(self._text_of(answer)))

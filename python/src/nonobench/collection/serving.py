@@ -102,7 +102,6 @@ def serve(memory: int) -> None:
                 break
             judging.answer(task)
         answers.flush()
-    answers.flush()
 
 
 def _asked() -> Iterator[Any]:

@@ -65,6 +65,8 @@ class _Pieces(io.BytesIO):
     def __init__(self, data: bytes, expat: Any, tell: Callable[[], Any]) -> None:
         super().__init__(data)
         self._expat, self._tell = expat, tell
+        if hasattr(expat, "SetReparseDeferralEnabled"):  # from 2.6 on, expat would wait until twice as much of a part is there
+            expat.SetReparseDeferralEnabled(False)
 
     def read(self, size: Optional[int] = -1) -> bytes:
         """The next piece. What expat has taken and not yet told of is the beginning of one part."""
@@ -256,8 +258,7 @@ def _length(count: Any) -> int:
 
 def _compare(cells: list[list[str]], ground: str, clues: dict[str, Any]) -> None:
     """Clues that stand in the file must be those of the goal."""
-    columns: list[list[str]] = list(map(list, zip(*cells)))
-    for axis, lines in (("rows", cells), ("columns", columns)):
+    for axis, lines in (("rows", cells), ("columns", zip(*cells))):
         is_right = clues[axis] is None or clues[axis] == [_blocks(line, ground) for line in lines]
         need(is_right, f"the clues of the {axis} are not those of the solution")
 

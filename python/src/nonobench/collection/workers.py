@@ -255,8 +255,9 @@ class Pool:
 
     def _blame(self, hand: Hand, task: Task, why: str, is_late: bool) -> Iterator[Answer]:
         """What becomes of a puzzle whose process was ended, or ended: it is told, or tried once more."""
-        is_tried = is_late or (task.number, task.start) in self._died
-        is_unread = hand.has_more is None and (task.start > 1 or hand.is_reading)  # the puzzle was not reached
+        is_silent = task.start == 1 and hand.has_more is None and not hand.is_reading and _is_set(task)  # it may have been slow to begin
+        is_tried = is_late and not is_silent or (task.number, task.start) in self._died
+        is_unread = is_silent or hand.has_more is None and (task.start > 1 or hand.is_reading)  # the puzzle was not reached
         if task.before:  # kept rows were compared, and no puzzle was begun: all are judged anew
             self._again.append(task._replace(used=0.0, before="", kept=()))
         elif task.start > 1 and self._is_over(task) or is_tried and task.mode == FULL and is_unread:
@@ -270,11 +271,11 @@ class Pool:
             if is_late and "seconds" in row:
                 row["seconds"] = self._seconds
             yield from self._give_up(task, row, kind == "more", certificate)
-        elif is_late and task.mode == FULL:
-            self._again.append(task._replace(mode=GLANCE, spent=self._seconds or 0.0, has_more=bool(hand.has_more)))
         elif not is_tried:
             self._died.add((task.number, task.start))
             self._again.append(task)
+        elif is_late and task.mode == FULL:
+            self._again.append(task._replace(mode=GLANCE, spent=self._seconds or 0.0, has_more=bool(hand.has_more)))
         else:
             has_more = hand.has_more or task.has_more
             row = {"file": task.name, **place_of(task.start, has_more)}

@@ -108,8 +108,7 @@ def record_of(row: Row, flaws: int) -> list[Any]:
 
 def runs_of(picture: str) -> str:
     """The cells of a picture, row after row: a letter, and how often it comes where that is more than once."""
-    cells = picture.replace("/", "")
-    return re.sub(r"(.)\1+", lambda run: f"{run[1]}{len(run[0])}", cells)
+    return re.sub(r"(.)\1+", lambda run: f"{run[1]}{len(run[0])}", picture.replace("/", ""))
 
 
 def _environment() -> Any:
