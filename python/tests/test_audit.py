@@ -712,7 +712,7 @@ class Running(Case):
 
     def test_what_stays_of_a_puzzle_that_is_not_unique_is_told(self):
         """A kept row tells it, too; the puzzle's own certificate, which is read, is none of that."""
-        out, stays = os.path.realpath(self.folder) + "/out", "it stays, though the puzzle was not found unique\n"
+        out, stays = os.path.realpath(self.folder) + "/out", "it stays, though this run made none\n"
         self.put("set.xml", "<puzzleset>" + webpbn(UNIQUE) * 2 + "</puzzleset>")
         self.put("one.ppm", p3(UNIQUE))
         words = ["site", "--allow", "9", "--jsonl", "rows", "--resume", "--quiet"]
@@ -731,6 +731,16 @@ class Running(Case):
         for name in ("one.cert", "set.2.cert"):
             self.put(name, CERT)
         self.assertEqual(self.run_audit(*words, "--certify", "site", status=1).stderr, "")
+
+    def test_an_older_certificate_that_stays_beside_a_new_picture_is_told(self):
+        for name in ("one.cert", "one.ppm"):
+            self.put(name, "")
+        to, run = str(self.site / "one"), running.Run(arguments.Options(["site"], is_quiet=True))
+        text = '{"file":"one.ppm","verdict":"unique"%s}'
+        run._deliver(text % ',"lines":9', None, running.Kept((), to, to))
+        self.assertEqual(run._old, [])
+        run._deliver(text % ',"note":"no certificate within 9 s"', None, running.Kept((), to, to))
+        self.assertEqual(run._old, [f"{to}.cert"])
 
     def test_no_picture_of_a_kept_row_that_is_not_true_is_written(self):
         """The one that was published stays, with the certificate that is of it."""

@@ -30,7 +30,7 @@ EACH = 256  # bytes of what is kept of a row without its text, about
 READ = 5.0  # seconds that who reads has for what is written when a run is stopped
 BEHIND = 1.0  # seconds after which rows that wait for one before them are in a file
 
-OLD = "it stays, though the puzzle was not found unique"
+OLD = "it stays, though this run made none"
 UNLISTED = "of its rows stay as they were, of files below a folder that cannot be listed"
 MIXED = "rows of some of its puzzles are missing, or of another run"
 
@@ -131,7 +131,7 @@ class Run:
         self._is_told = False  # whether there are givens or a background of one
         self._unread: list[str] = []  # those of an older name that are not read
         self._lost: list[str] = []  # those of puzzles that their files do not have
-        self._old: list[str] = []  # what was written of puzzles that are not unique now
+        self._old: list[str] = []  # certificates and pictures of earlier runs, where this one made none
         self._left = 0  # rows of an earlier run that are left out
         self._unlisted: set[str] = set()  # folders that cannot be listed
         self._is_elsewhere = False  # whether other shares have files
@@ -391,8 +391,9 @@ class Run:
         number = row.get("puzzle", 1)
         if not row.get("more") and row["verdict"] != "error":  # the last one of its file
             self._lost += [path for of, path in kept.beside if of > number]
-        if row["verdict"] != "unique":
-            old = filter(os.path.lexists, certificates.written(kept.to, kept.published, number))
+        if "lines" not in row:
+            published = None if row["verdict"] == "unique" else kept.published
+            old = filter(os.path.lexists, certificates.written(kept.to, published, number))
             self._old += [path for path in old if path not in (os.path.realpath(beside) for of, beside in kept.beside if of == number)]
         for sink in self._sinks:
             if sink is self._lines and place is not None:
