@@ -46,11 +46,6 @@ def kind_of(number, words):
     return 'edits' if 'rt-edit' in folder else 'proofs'
 
 
-def crate_of(words):
-    """The crate that a process of the prover or of a compiler is at work on."""
-    return words[words.index('--crate-name') + 1] if '--crate-name' in words[:-1] else 'others'
-
-
 def below(top, parents):
     """The processes that come of one, itself among them."""
     found, more = set(), {top}
@@ -76,7 +71,8 @@ def main():
         for number, _, start, seconds, words in running:
             kind = kind_of(number, words) if number in ours and words[0] else None
             if kind:
-                seen[number, start] = kind, crate_of(words), seconds
+                crate = words[words.index('--crate-name') + 1] if '--crate-name' in words[:-1] else 'others'
+                seen[number, start] = kind, crate, seconds
         time.sleep(1)
     minutes = {}
     for kind, crate, seconds in seen.values():

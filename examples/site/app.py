@@ -469,6 +469,11 @@ def bound_connections():
             if len(others) >= min(MOST_OPEN, files // 4):
                 to_close(others).will_close = True
 
+        def writable(self):
+            if self.will_close:  # at once: waitress would wait until its client takes something
+                self.handle_close()
+            return not self.will_close and super().writable()
+
     BaseWSGIServer.channel_class = Channel
     most = resource.getrlimit(resource.RLIMIT_NOFILE)[1]
     files = MOST_FILES if most == resource.RLIM_INFINITY else min(MOST_FILES, most)
@@ -485,7 +490,7 @@ def main():
     logging.getLogger("waitress.queue").setLevel(logging.ERROR)
     server = waitress.create_server(
         app, listen=listen, threads=8, connection_limit=1000, asyncore_use_poll=True, channel_timeout=30, max_request_header_size=1 << 13,
-        max_request_body_size=2 * app.config["MAX_CONTENT_LENGTH"], inbuf_overflow=1 << 16, ident=None,
+        max_request_body_size=2 * app.config["MAX_CONTENT_LENGTH"], inbuf_overflow=1 << 16, outbuf_overflow=1 << 16, ident=None,
     )
     take_turns(server.task_dispatcher, app.config["WORKERS"])
     logging.basicConfig()

@@ -209,6 +209,21 @@ class Serving(unittest.TestCase):
                 self.assertEqual(status, 409 if sent else 303)
                 self.assertLess(seconds, SECONDS + waited(self.server.pid) - idle)
 
+    def test_who_takes_no_answer_makes_room(self):
+        """30 clients that read no more than the beginning of a page of 5 MiB, of a site for 10 connections."""
+        self.server.kill()
+        self.serve("-c", "import app; app.MOST_OPEN, app.table_of = 10, lambda _: app.Markup('x' * (5 << 20)); app.main()")
+        self.assertEqual(self.bring(form(*pairs(1)[0]))[0], 303)
+        with contextlib.ExitStack() as opened:
+            for _ in range(30):
+                client = opened.enter_context(socket.create_connection(("127.0.0.1", self.port), STARTING))
+                client.sendall(b"GET /puzzles/1 HTTP/1.1\r\nHost: x\r\n\r\n")
+                self.assertEqual(client.recv(9), b"HTTP/1.1 ")
+            self.assertEqual(self.listed(), 1)
+            open_files = [os.readlink(file) for file in Path(f"/proc/{self.server.pid}/fd").iterdir()]
+            self.assertLess(sum(name.startswith("socket:") for name in open_files), 15)
+        self.assertLess(sum(map(peak, family(self.server.pid))), 200 << 10)
+
     def test_few_open_files_are_enough(self):
         """300 clients, each with a file of what it sent, where the site may open 256."""
         self.server.kill()
