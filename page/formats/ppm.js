@@ -77,6 +77,7 @@ export function readPpm(bytes) {
 function rawSamples(tokens, maxval, count) {
   const { bytes } = tokens;
   const size = maxval > 255 ? 2 : 1;
+  if (bytes[tokens.at] === PPM_COMMENT) throw new FileFault(phrase('formats.picturesByteNoNumber', { what: phrase('formats.maxval'), from: tokens.at }));
   let at = tokens.at + 1;
   if (bytes.length < at + count * size) throw new FileFault(phrase('formats.pictureEndsBeforeLast'));
   return () => {

@@ -50,6 +50,7 @@ test('pictures that are not read', () => {
     refused(() => readPpm(bytes('P3 1 1 255 0 256 0')), /above 255, the value of full brightness/);
     refused(() => readPpm(bytes('P3 1 1 255 0 0 0 0')), /more text after/);
     refused(() => readPpm(bytes('P6 1 1 255 ab')), /ends before its last sample/);
+    refused(() => readPpm(bytes('P6 1 1 255#ab\nabc')), /at byte 10 is not a number/);
 });
 
 test('an image as a document', () => {
