@@ -163,6 +163,21 @@ def test_halves_go_too_and_what_is_not_ours_stays(archive, tmp_path):
     assert files(prefix) == [mine]
 
 
+@pytest.mark.parametrize('name', ['bin/nonobench', OURS[0]])
+def test_halves_are_written_through_no_link_and_into_no_folder(archive, name, tmp_path):
+    prefix, others = tmp_path / 'prefix', tmp_path / 'others'
+    half = prefix / f'{name}.new'
+    write(others, 'x')
+    half.parent.mkdir(parents=True)
+    half.symlink_to(others)
+    (tmp_path / 'temporary').mkdir()
+    assert run(archive / 'install', '--prefix', prefix, cwd=tmp_path, TMPDIR='temporary')[0] == 0
+    assert (others.read_text(), half.exists(), (prefix / name).is_symlink(), os.listdir(tmp_path / 'temporary')) == ('x', False, False, [])
+    half.mkdir()
+    status, out, err = run(archive / 'install', '--prefix', prefix)
+    assert (status, str(half) in err, f'installed {prefix / name}\n' in out, (prefix / name).is_file()) == (1, True, False, True)
+
+
 def test_folders_that_were_there_stay(archive, tmp_path):
     prefix = tmp_path / 'prefix'
     for folder in ('bin', 'share/man/man1'):
