@@ -16,8 +16,8 @@ export const MOST_AT_ONCE = 2000;
 
 const AUDITED = /\.(p[pgbn]m|png|gif|bmp|webp|non|xml)$/i; // pictures that nonobench-audit reads
 const OTHERS = /\.(avif|svg|jpe?g)$/i; // and those that this page alone reads
-const PUBLISHED = /\.(givens|background|GIVENS|BACKGROUND)$/;
-const CERTIFICATES = /\.(cert|proof|CERT|PROOF)$/;
+const PUBLISHED = /\.(givens|background)$/i;
+const CERTIFICATES = /\.(cert|proof)$/i;
 const NUMBERED = /\.[1-9][0-9]{0,5}\.(cert|proof)$/i; // of a puzzle in a set
 
 const isAudited = (file) => !file.isDirectory && AUDITED.test(file.name);
@@ -25,20 +25,21 @@ const isPicture = (file) => isAudited(file) || (!file.isDirectory && OTHERS.test
 const isBeside = (file) => !file.isDirectory && (PUBLISHED.test(file.name) || CERTIFICATES.test(file.name));
 
 const stemOf = (name) => name.replace(/\.[^.]*$/, '');
+const withSmallEnding = (name) => name.replace(/[^.]*$/, (ending) => ending.toLowerCase());
 
 // The files that go with a picture and have an ending: those of NAME.png.givens come before those of NAME.givens, unless they are those
 // of a picture NAME.png.xml. Those of NAME.png are not those of a NAME.png.jpg, which an audit does not read.
-function filesFor(named, stems, name, ending) {
+function filesFor({ named, ended, stems }, name, ending) {
   const stem = stemOf(name);
   const fronts = [...(stems.has(name) ? [] : [name]), ...(AUDITED.test(name) || !named.has(stem) ? [stem] : [])];
-  return fronts.flatMap((front) => [ending, ending.toUpperCase()].flatMap((end) => named.get(`${front}.${end}`) ?? []));
+  return fronts.flatMap((front) => ended.get(`${front}.${ending}`) ?? []);
 }
 
 // A picture with what goes with it. Where several files have one name, it is not known which of them go together.
-function unitOf(file, named, stems) {
-  const [givens, background, ...others] = ['givens', 'background', 'cert', 'proof', 'txt'].map((ending) => filesFor(named, stems, file.name, ending));
+function unitOf(file, all) {
+  const [givens, background, ...others] = ['givens', 'background', 'cert', 'proof', 'txt'].map((ending) => filesFor(all, file.name, ending));
   const beside = [...givens.slice(0, 1), ...background.slice(0, 1), ...others.flat()];
-  const isClear = !beside.length || [file, ...beside].every(({ name, isDirectory }) => !isDirectory && named.get(name).length === 1);
+  const isClear = !beside.length || [file, ...beside].every(({ name, isDirectory }) => !isDirectory && all.named.get(name).length === 1);
   return { file, givens: givens[0], background: background[0], beside, fault: isClear ? '' : phrase('import.severalOfName') };
 }
 
@@ -53,9 +54,13 @@ export function grouped(files, most = files.length) {
     // A second one tells already that it is not known which of them go together.
     if (twins.length < 2 && (!file.isDirectory || PUBLISHED.test(file.name))) named.set(file.name, [...twins, file]);
   }
-  const isOfSet = ({ name }) => NUMBERED.test(name) && ['', '.xml', '.XML'].some((ending) => named.has(name.replace(NUMBERED, ending)));
+  const ended = new Map(); // by names with small endings: those that have these come first
+  for (const file of [...named.values()].flat().sort((one, other) => (one.name < other.name ? 1 : -1))) {
+    ended.set(withSmallEnding(file.name), [...(ended.get(withSmallEnding(file.name)) ?? []), file]);
+  }
+  const isOfSet = ({ name }) => NUMBERED.test(name) && ['', '.xml'].some((ending) => ended.has(withSmallEnding(name.replace(NUMBERED, ending))));
   const stems = new Set(files.filter(isAudited).map(({ name }) => stemOf(name)));
-  const all = files.filter((file) => !isBeside(file)).slice(0, most).map((file) => (isPicture(file) ? unitOf(file, named, stems) : { file, beside: [] }));
+  const all = files.filter((file) => !isBeside(file)).slice(0, most).map((file) => (isPicture(file) ? unitOf(file, { named, ended, stems }) : { file, beside: [] }));
   const used = new Set(all.flatMap(({ beside }) => beside));
   const units = all.filter(({ file }) => file.isDirectory || !used.has(file));
   const alone = files.filter((file) => isBeside(file) && !used.has(file) && !isOfSet(file));
@@ -63,7 +68,7 @@ export function grouped(files, most = files.length) {
 }
 
 /** Whether a certificate goes with the file of a unit. */
-export const hasCertificate = ({ beside }) => beside.some(({ name }) => /\.(cert|proof)$/i.test(name));
+export const hasCertificate = ({ beside }) => beside.some(({ name }) => CERTIFICATES.test(name));
 
 async function bytesOf(file) {
   mustHold(file, MOST_BYTES_READ);

@@ -94,9 +94,9 @@ test('what goes with a picture, by its name', () => {
     // Those of another name, or of a file that is no picture, are alone.
     assert.deepEqual(names(['a.txt', 'a.givens', 'A.background', 'b.cert']), [['a.txt', undefined, undefined, [], false], ...['a.givens', 'A.background', 'b.cert'].map((name) => [name, undefined, undefined, [], true])]);
     assert.deepEqual(names(['Ä 1.PNG', 'Ä 1.GIVENS']), [['Ä 1.PNG', 'Ä 1.GIVENS', undefined, ['Ä 1.GIVENS'], false]]);
-    assert.deepEqual(names(['a.png', 'a.Givens']), [['a.png', undefined, undefined, [], false], ['a.Givens', undefined, undefined, [], false]]);
+    assert.deepEqual(names(['a.png', 'a.GIVENS', 'a.Givens', 'a.Cert']), [['a.png', 'a.Givens', undefined, ['a.Givens', 'a.Cert'], false], ['a.GIVENS', undefined, undefined, [], true]]);
     // The puzzles of a set have certificates of their own.
-    assert.deepEqual(names(['set.xml', 'set.2.cert', 'set.xml.3.proof', 'set.givens', 'no.2.cert']), [['set.xml', 'set.givens', undefined, ['set.givens'], false], ['no.2.cert', undefined, undefined, [], true]]);
+    assert.deepEqual(names(['set.Xml', 'set.2.cert', 'set.Xml.3.proof', 'set.givens', 'no.2.cert']), [['set.Xml', 'set.givens', undefined, ['set.givens'], false], ['no.2.cert', undefined, undefined, [], true]]);
     assert.deepEqual(grouped([fileOf('a.png'), fileOf('a.cert')]).map(hasCertificate), [true]);
     assert.deepEqual(grouped([fileOf('a.png'), fileOf('a.givens')]).map(hasCertificate), [false]);
 });
