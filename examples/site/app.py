@@ -238,15 +238,12 @@ def ink_of(triple):
     return f"background: rgb({red}, {green}, {blue}); color: {figure}"
 
 
-def given_of(triple):
-    """How a given cell looks. Each has a frame and a mark, whatever its colour: a cross where it stays empty."""
-    return f'<td class="given" style="{ink_of(triple)}">{"×" if triple == WHITE else "●"}</td>'
-
-
 def table_of(puzzle):
     """The table of a puzzle, with nothing that a stranger wrote. A template takes long for thousands of cells."""
     inks = {letter: ink_of(triple) for letter, triple in puzzle["colours"].items()}
-    looks = {triple: given_of(triple) for triple in {tuple(triple) for _, _, triple in puzzle["givens"]}}
+    # Each given cell has a frame and a mark, whatever its colour: a cross where it stays empty.
+    looks = {triple: f'<td class="given" style="{ink_of(triple)}">{"×" if triple == WHITE else "●"}</td>'
+             for triple in {tuple(triple) for _, _, triple in puzzle["givens"]}}
     cells = [["<td></td>"] * len(puzzle["columns"]) for _ in puzzle["rows"]]
     for row, column, triple in puzzle["givens"]:
         cells[row - 1][column - 1] = looks[tuple(triple)]

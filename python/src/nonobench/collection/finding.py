@@ -342,12 +342,9 @@ def found_in(folder: Folder, name: str) -> Found:
 
 def _ways(folder: Folder, name: str) -> list[str]:
     """What goes with a file is called after its whole name, or its stem; if it has no ending of puzzles, not as what is another's."""
-
-    def is_others(way: str) -> bool:
-        return folder.stems[way] > 0 or _whole(folder, way) != "" or _is_in_set(folder, way)
-
     ways = dict.fromkeys((name, os.path.splitext(name)[0]))
-    return [way for way in ways if _is_puzzle(folder, name) or not is_others(way)]
+    others = [way for way in ways if folder.stems[way] > 0 or _whole(folder, way) or _is_in_set(folder, way)]
+    return [way for way in ways if _is_puzzle(folder, name) or way not in others]
 
 
 def _told(folder: Folder, name: str, end: str) -> tuple[Optional[str], str]:
