@@ -26,6 +26,7 @@ WORDS = set(
 )
 WIDE = 100
 MOST_PARAMETERS = 6
+COUNTER = re.compile(r'\w+: &mut (Meter|u32|u64)')
 # what stands in these files the prover looks up by name
 PROVERS_NAMES = {'Answers.antt', 'Invariants.antt', 'Proof.antt'}
 
@@ -108,11 +109,6 @@ def functions_with(is_counted):
         for name, inside, number in heads(text):
             if is_counted(parameters(inside)):
                 yield f'{place(file, number)} {name}'
-
-
-def has_counter(found):
-    """Whether a counter is among parameters that is carried by `&mut`: a meter, or a number of evaluations, splits or parts."""
-    return any(re.fullmatch(r'\w+: &mut (Meter|u32|u64)', it) for it in found)
 
 
 def other_pictures():
@@ -232,7 +228,8 @@ COUNTS = (
     ('lists of lists of numbers in proofs without a sort', lambda: unsorted_grids('proofs'), 441),
     # the second is `nonobench_assess`, for hosts in C: two of its texts may be left out
     ('functions above 6 parameters', lambda: functions_with(lambda found: len(found) > MOST_PARAMETERS), 2),
-    ('functions that carry a counter by &mut', lambda: functions_with(has_counter), 13),
+    # a meter, or a number of evaluations, splits or parts
+    ('functions that carry a counter by &mut', lambda: functions_with(lambda found: any(map(COUNTER.fullmatch, found))), 13),
     # the text of a flaw stands in `assess_text` and, below the search, in `check_host`; conversions of errors of a check have one shape
     ('pairs of source files that share six lines of one shape', lambda: shared_places(sources('src', '.rt'), shape), 130),
     ('pairs of specs or proofs that share six lines', lambda: shared_places(proof_sources(), str), 24),

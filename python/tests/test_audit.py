@@ -6,6 +6,7 @@ Pictures and what is expected of them are worked by hand. Pillow, defusedxml and
 import contextlib
 import csv
 import errno
+import fcntl
 import gc
 import hashlib
 import io
@@ -827,6 +828,18 @@ class Running(Case):
         for name in ("pipe", "/dev/zero", "site"):
             with self.subTest(name):
                 self.assertEqual(self.run_audit("merge", name, status=3).stderr, f"nonobench-audit: {name}: this is not a file\n")
+
+    def test_merge_reads_no_rows_that_are_written_meanwhile(self):
+        self.put("one.ppm", p3(UNIQUE))
+        self.rows("site", "--allow", "9", status=0)
+        rows = (self.folder / "rows.jsonl").read_bytes()
+        with open(self.folder / "rows.jsonl", "rb") as file:
+            fcntl.flock(file, fcntl.LOCK_EX)
+            self.assertEqual(self.run_audit("merge", "rows.jsonl", status=3).stderr, "nonobench-audit: rows.jsonl: another run writes to it\n")
+        for others in (rows.replace(b'"fit":true', b'"fit":null'), b""):
+            with unittest.mock.patch.object(running.Run, "_open", lambda _: (self.folder / "rows.jsonl").write_bytes(others)):
+                self.assertEqual(in_process(self.folder, "merge", "rows.jsonl"), (3, "nonobench-audit: rows.jsonl: it was written while it was read\n"))
+            (self.folder / "rows.jsonl").write_bytes(rows)
 
     def test_pictures_are_not_written_where_puzzles_are_read(self):
         self.put("in/one.ppm", p3(UNIQUE))

@@ -225,7 +225,7 @@ def _parser() -> argparse.ArgumentParser:
     parser.add_argument("--certificates", metavar="DIR", type=_folder, help="certificates are below this folder, not in FOLDER")
     parser.add_argument("--givens", metavar="DIR", type=_folder, help="NAME.givens and NAME.background are below this folder, not in FOLDER")
     parser.add_argument("--untrusted", action="store_true", help="for files of strangers: there is no NAME.givens nor NAME.background, but in the folder of --givens")
-    parser.add_argument("--every-picture", action="store_true", help="a picture without a certificate is refused")
+    parser.add_argument("--every-picture", action="store_true", help="a .ppm without a certificate is refused")
     add_allowed(parser)
     parser.add_argument("--jobs", metavar="N", type=_above_0, default=len(os.sched_getaffinity(0)), help="checks at a time (by default one per processor)")
     parser.add_argument("--processor", metavar="S", type=_above_0, default=10, help="seconds of processor time for each (by default 10)")

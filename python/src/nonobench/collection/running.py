@@ -18,7 +18,7 @@ from . import certificates
 from .arguments import Options, options_of
 from .earlier import Earlier, kept_digest, read_row, to_check
 from .finding import CHANGED, NONE, UNTOLD, Names, Places, changed, find, folders_of, is_among, is_in_share, order_of, real_place
-from .outputs import CLOSED, Failure, Lines, Output, Sheet, Table, hold_streams, kept_folder, lines_of, telling
+from .outputs import CLOSED, Failure, Lines, Output, Sheet, Table, hold_streams, kept_folder, lines_of, locked, telling
 from .progress import Progress
 from .rows import Row, printable, row_of, text_of
 from .serving import FULL, Settings, Task
@@ -157,26 +157,30 @@ class Run:
 
     def merge(self) -> int:
         """Joins the rows of several runs."""
-        rows: dict[Any, tuple[int, int]] = {}
+        rows: dict[Any, tuple[int, int, int]] = {}
         files = []
         for at, path in enumerate(self._options.paths):
             if os.path.exists(path) and not os.path.isfile(path):
                 raise Failure(f"{path}: this is not a file")  # it is read twice, and nothing waits for a pipe
             with telling(path):
                 files.append(open(path, "rb"))
+                locked(path, files[-1], True)
                 for number, (place, line) in enumerate(lines_of(files[-1]), 1):
                     row = read_row(path, number, line)
-                    rows[order_of(row["file"]), row.get("puzzle", 1)] = (at, place)
+                    rows[order_of(row["file"]), row.get("puzzle", 1)] = (at, place, hash(line))
         self._join(files, rows, False)  # where rows are missing, what is there stays
         self._open()
         return self._guarded(lambda: self._join(files, rows, True))
 
-    def _join(self, files: list[Any], rows: dict[Any, tuple[int, int]], is_told: bool) -> None:
+    def _join(self, files: list[Any], rows: dict[Any, tuple[int, int, int]], is_told: bool) -> None:
         before: Row = {}
         for key in sorted(rows):
-            at, place = rows[key]
+            at, place, known = rows[key]
             files[at].seek(place)
-            row = row_of(files[at].readline())
+            line = files[at].readline()
+            if hash(line) != known:
+                raise Failure(f"{files[at].name}: it was written while it was read")
+            row = row_of(line)
             if not _follows(before, row):
                 raise Failure(f"{printable((before if before.get('more') else row)['file'])}: {MIXED}")
             # One whose process was ended does not tell its content.
