@@ -257,7 +257,7 @@ class Answers(unittest.TestCase):
         for file in (None, "P3", 5, ["P3"]):
             with self.assertRaises(TypeError):
                 nonobench.clues(file)
-        for background in ((-1, 0, 0), (0, 0, 65536), (1, 2), (1, 2, 3, 4), "0,0,0", (0.0, 0, 0), ("0", "0", "0"), 5, (10**5000, 0, 0)):
+        for background in ((-1, 0, 0), (0, 0, 65536), (1, 2), (1, 2, 3, 4), "0,0,0", (0.0, 0, 0), ("0", "0", "0"), 5, (10**5000, 0, 0), b"fff"):
             with self.assertRaisesRegex(ValueError, "^background must be a triple of numbers from 0 to 65535$"):
                 nonobench.check(DIAGONAL, GIVEN, background, ANY_GIVEN)
         for published in ("11", "1,1", [1, 1], [(1,)], [(1, 1, 1)], 5, [(1, "1")], [(1.0, 1)], [(1, 10**5000)]):

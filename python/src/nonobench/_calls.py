@@ -197,7 +197,7 @@ def _allow(allowance: Optional[int]) -> bytes:
 def triple_of(colour: Colour, most: int = MOST_SAMPLE, name: str = "background") -> Colour:
     """A colour as three numbers from 0 to another one."""
     with contextlib.suppress(TypeError, ValueError):
-        red, green, blue = map(operator.index, colour)
+        red, green, blue = map(operator.index, () if isinstance(colour, (bytes, bytearray, memoryview)) else colour)
         if 0 <= min(red, green, blue) <= max(red, green, blue) <= most:
             return red, green, blue
     raise ValueError(f"{name} must be a triple of numbers from 0 to {most}")
