@@ -106,7 +106,7 @@ class ByProgram(unittest.TestCase):
             self.assertEqual(_by_program.main([str(odd)]), 0)
         out.flush()
         lines = out.buffer.getvalue().decode("cp1252").splitlines()
-        self.assertEqual([line[23 + len(str(odd)) :] for line in lines], ["\\u0436\\n.non/fit.ppm", "\\udcff.non/fit.ppm"])
+        self.assertEqual([line[23 + len(str(odd)) :] for line in lines], ["\\N{CYRILLIC SMALL LETTER ZHE}\\n.non/fit.ppm", "\\udcff.non/fit.ppm"])
 
     def test_a_folder_that_cannot_be_searched(self):
         (self.folder / "fit.ppm").touch()

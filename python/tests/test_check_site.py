@@ -668,11 +668,12 @@ def test_messages_that_cannot_be_written_change_no_status(site):
 
 
 def test_outputs_that_cannot_be_written_or_have_few_signs(site):
+    """No two names are printed alike: a byte that is no UTF-8 stands as \\xe9 in each."""
     pair(site, "\N{DUCK}\xe9", certificate="nonocert 1\n")
     with open("/dev/full", "w") as full:
         run = started(stdout=full)
     assert (run.returncode, run.stderr) == (3, "nonobench-check-site: No space left on device\n")
-    for coding, name in (("ascii", "\\U0001f986\\xe9"), ("latin-1", "\\U0001f986\xe9"), ("utf-8", "\N{DUCK}\xe9")):
+    for coding, name in (("ascii", "\\N{DUCK}\\N{LATIN SMALL LETTER E WITH ACUTE}"), ("latin-1", "\\N{DUCK}\xe9"), ("utf-8", "\N{DUCK}\xe9")):
         run = started(stdout=subprocess.PIPE, encoding=coding)
         assert (run.returncode, run.stdout) == (1, f"site/{name}.cert: certificate Ended at line 2\n")
 

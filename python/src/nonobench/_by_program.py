@@ -38,7 +38,7 @@ class Row(NamedTuple):
         """The row as it is printed: in one line, and in signs that the output has."""
         words = printable(f"{name}{'' if not self.notes else ': ' + ', '.join(self.notes)}")
         coding = sys.stdout.encoding or "utf-8"
-        return f"{self.verdict:9}  {self.grade:9}  {words}".encode(coding, "backslashreplace").decode(coding)
+        return f"{self.verdict:9}  {self.grade:9}  {words}".encode(coding, "namereplace").decode(coding)
 
 
 def row_of(status: int, text: str, said: str) -> Row:

@@ -173,7 +173,7 @@ class Checks:
 def line_of(answer: Answer) -> str:
     """What is printed of an answer, in one line, whatever its name holds, and in signs that the output has."""
     coding = sys.stdout.encoding or "utf-8"
-    return f"{printable(finding.shown(answer.file))}: {one_line(answer.why)}".encode(coding, "backslashreplace").decode(coding)
+    return f"{printable(finding.shown(answer.file))}: {one_line(answer.why)}".encode(coding, "namereplace").decode(coding)
 
 
 def main(words: Optional[list[str]] = None) -> int:

@@ -79,7 +79,7 @@ def hold_streams() -> None:
     sys.stdout, sys.stderr = (stream or open(os.devnull, "w", encoding="utf-8") for stream in (sys.stdout, sys.stderr))
     if sys.stderr is sys.__stderr__:
         messages = io.BufferedWriter(_Messages(2, "w", closefd=False))
-        sys.stderr = io.TextIOWrapper(messages, sys.stderr.encoding, "backslashreplace", line_buffering=True)
+        sys.stderr = io.TextIOWrapper(messages, sys.stderr.encoding, "namereplace", line_buffering=True)
 
 
 def _wait(file: BinaryIO, until: float = math.inf) -> None:
@@ -333,7 +333,7 @@ class Table(Sink):
 
     def say(self, lines: str) -> None:
         """Puts lines, also such that are no rows."""
-        said = (lines + "\n").encode(sys.stdout.encoding or "utf-8", "backslashreplace")
+        said = (lines + "\n").encode(sys.stdout.encoding or "utf-8", "namereplace")
         self._guard(lambda: self._output.put(said))
 
     def flush(self) -> None:
