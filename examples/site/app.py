@@ -406,17 +406,16 @@ class Turns:
         return sum(map(len, self.waiting.values()))
 
     def append(self, channel):
-        """Puts a connection behind those of its address."""
+        """Puts a connection behind those of its address. Those that were closed meanwhile go, with what they have sent."""
+        open_ones = {address: deque(one for one in channels if one.connected) for address, channels in self.waiting.items()}
+        self.waiting = {address: channels for address, channels in open_ones.items() if channels}
         self.waiting.setdefault(network(channel.addr[0]), deque()).append(channel)
 
     def popleft(self):
         """Takes the first connection of the address whose turn it is."""
-        address = next(iter(self.waiting))
-        channels = self.waiting.pop(address)
-        channel = channels.popleft()
-        if channels:
-            self.waiting[address] = channels
-        return channel
+        address = next(address for address, channels in self.waiting.items() if channels)
+        self.waiting[address] = channels = self.waiting.pop(address)  # behind the others
+        return channels.popleft()
 
 
 def take_turns(pages, workers):

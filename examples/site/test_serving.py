@@ -136,6 +136,11 @@ class Serving(unittest.TestCase):
         self.assertTrue(select.select([self.server.stdout], [], [], STARTING)[0], "the site does not say that it serves")
         self.assertEqual(self.server.stdout.readline(), f"Serving on 127.0.0.1:{self.port}\n")
 
+    def open_files(self):
+        """What the server has open, as the system calls it."""
+        run = subprocess.run(["ls", "-l", f"/proc/{self.server.pid}/fd"], stdout=subprocess.PIPE, stderr=subprocess.DEVNULL, text=True, check=False)
+        return [line.partition(" -> ")[2] for line in run.stdout.splitlines()]
+
     def listed(self):
         """How many puzzles are listed."""
         with urllib.request.urlopen(f"http://127.0.0.1:{self.port}/", timeout=STARTING) as answer:
@@ -220,8 +225,7 @@ class Serving(unittest.TestCase):
                 client.sendall(b"GET /puzzles/1 HTTP/1.1\r\nHost: x\r\n\r\n")
                 self.assertEqual(client.recv(9), b"HTTP/1.1 ")
             self.assertEqual(self.listed(), 1)
-            open_files = [os.readlink(file) for file in Path(f"/proc/{self.server.pid}/fd").iterdir()]
-            self.assertLess(sum(name.startswith("socket:") for name in open_files), 15)
+            self.assertLess(sum(name.startswith("socket:") for name in self.open_files()), 15)
         self.assertLess(sum(map(peak, family(self.server.pid))), 200 << 10)
 
     def test_few_open_files_are_enough(self):
@@ -255,18 +259,20 @@ class Serving(unittest.TestCase):
         self.assertLess(max(seconds for _, seconds in answers), SECONDS + waited(self.server.pid) - idle)
 
     def test_uploads_that_wait_shut_nobody_out_of_the_pages(self):
-        """30 uploads of as many addresses, to a site for 20 connections whose checks take a minute."""
+        """60 uploads of as many addresses, to a site for 20 connections whose checks take a minute."""
         self.server.kill()
         self.serve("-c", "import app, time; app.MOST_OPEN, app.MOST_WAITING = 20, 15; app.Site.store = lambda *_: time.sleep(60); app.main()")
-        body = form(b"x", b"x")
+        body = form(b"x", b"x", b"#" * 70000)
         head = f"POST /puzzles HTTP/1.1\r\nHost: x\r\nContent-Type: multipart/form-data; boundary={EDGE}\r\nContent-Length: {len(body)}\r\n\r\n"
         with contextlib.ExitStack() as opened:
-            for at in range(1, 31):
+            for at in range(1, 61):
                 client = opened.enter_context(socket.create_connection(("127.0.0.1", self.port), STARTING, (f"127.0.1.{at}", 0)))
                 with contextlib.suppress(OSError):  # it is closed already
                     client.sendall(head.encode() + body)
             time.sleep(0.5)
             self.assertEqual([self.listed() for _ in range(4)], [0] * 4)
+            # Nothing is held of what the closed ones have sent.
+            self.assertLess(sum(name.endswith("(deleted)") for name in self.open_files()), 30)
 
     @takes_long
     def test_who_uploads_much_shuts_nobody_out_of_the_workers(self):
