@@ -740,8 +740,9 @@ class Running(Case):
         text = '{"file":"one.ppm","verdict":"unique"%s}'
         run._deliver(text % ',"lines":9', None, running.Kept((), to, to))
         self.assertEqual(run._old, [])
-        run._deliver(text % ',"note":"no certificate within 9 s"', None, running.Kept((), to, to))
-        self.assertEqual(run._old, [f"{to}.cert"])
+        for more in (',"note":"no certificate within 9 s"', ',"lines":9,"note":"its certificate was not written: No space left on device"'):
+            run._deliver(text % more, None, running.Kept((), to, to))
+        self.assertEqual(run._old, [f"{to}.cert"] * 2)
 
     def test_no_picture_of_a_kept_row_that_is_not_true_is_written(self):
         """The one that was published stays, with the certificate that is of it."""
@@ -835,7 +836,7 @@ class Running(Case):
         rows = (self.folder / "rows.jsonl").read_bytes()
         with open(self.folder / "rows.jsonl", "rb") as file:
             fcntl.flock(file, fcntl.LOCK_EX)
-            self.assertEqual(self.run_audit("merge", "rows.jsonl", status=3).stderr, "nonobench-audit: rows.jsonl: another run writes to it\n")
+            self.assertEqual(self.run_audit("merge", "rows.jsonl", status=3).stderr, "nonobench-audit: rows.jsonl: another run uses it\n")
         for others in (rows.replace(b'"fit":true', b'"fit":null'), b""):
             with unittest.mock.patch.object(running.Run, "_open", lambda _: (self.folder / "rows.jsonl").write_bytes(others)):
                 self.assertEqual(in_process(self.folder, "merge", "rows.jsonl"), (3, "nonobench-audit: rows.jsonl: it was written while it was read\n"))

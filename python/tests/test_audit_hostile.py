@@ -1382,7 +1382,7 @@ class Outputs(Case):
         for option, name in zip(outputs[::2], outputs[1::2]):
             with self.subTest(option):
                 told = os.path.realpath(self.folder / name) if option == "--certify" else name
-                self.assertEqual(self.run_audit("site", option, name, status=3).stderr, f"nonobench-audit: {told}: another run writes to it\n")
+                self.assertEqual(self.run_audit("site", option, name, status=3).stderr, f"nonobench-audit: {told}: another run uses it\n")
         self.assertTrue((self.folder / "rows").read_bytes().startswith(before))
         first.send_signal(signal.SIGTERM)
         first.communicate(timeout=PATIENCE)

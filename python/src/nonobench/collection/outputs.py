@@ -47,7 +47,7 @@ def locked(name: str, file: Union[BinaryIO, int], is_shared: bool = False) -> No
     try:
         fcntl.flock(file, (fcntl.LOCK_SH if is_shared else fcntl.LOCK_EX) | fcntl.LOCK_NB)
     except BlockingIOError:
-        raise Failure(f"{name}: another run writes to it") from None
+        raise Failure(f"{name}: another run uses it") from None
     except OSError:
         pass  # a system of files without locks
 
@@ -143,7 +143,7 @@ class Output:
         if is_regular(self.file):  # a device such as /dev/null may have several runs
             locked(self.name, self.file)
             if not os.path.samestat(os.stat(way, dir_fd=self._folder), os.fstat(self.file.fileno())):  # put in its place since
-                raise Failure(f"{self.name}: another run writes to it")
+                raise Failure(f"{self.name}: another run uses it")
         elif flags:
             raise Failure(f"{self.name}: this is not a file")
 

@@ -20,7 +20,7 @@ from .earlier import Earlier, kept_digest, read_row, to_check
 from .finding import CHANGED, NONE, UNTOLD, Names, Places, changed, find, folders_of, is_among, is_in_share, order_of, real_place
 from .outputs import CLOSED, Failure, Lines, Output, Sheet, Table, hold_streams, kept_folder, lines_of, locked, telling
 from .progress import Progress
-from .rows import Row, printable, row_of, text_of
+from .rows import Row, printable, row_of, text_of, unwritten
 from .serving import FULL, Settings, Task
 from .tally import ERRORS, Tally
 from .workers import Answer, Broken, Pool
@@ -395,7 +395,7 @@ class Run:
         number = row.get("puzzle", 1)
         if not row.get("more") and row["verdict"] != "error":  # the last one of its file
             self._lost += [path for of, path in kept.beside if of > number]
-        if "lines" not in row:
+        if "lines" not in row or unwritten("certificate") in row.get("note", ""):
             published = None if row["verdict"] == "unique" else kept.published
             old = filter(os.path.lexists, certificates.written(kept.to, published, number))
             self._old += [path for path in old if path not in (os.path.realpath(beside) for of, beside in kept.beside if of == number)]
