@@ -162,9 +162,9 @@ class Run:
         for at, path in enumerate(self._options.paths):
             if os.path.exists(path) and not os.path.isfile(path):
                 raise Failure(f"{path}: this is not a file")  # it is read twice, and nothing waits for a pipe
-            with telling(path):
+            with telling(path), open(path, "rb") as looked_at:
+                locked(path, looked_at, True)  # no run writes to it now
                 files.append(open(path, "rb"))
-                locked(path, files[-1], True)
                 for number, (place, line) in enumerate(lines_of(files[-1]), 1):
                     row = read_row(path, number, line)
                     rows[order_of(row["file"]), row.get("puzzle", 1)] = (at, place, hash(line))
