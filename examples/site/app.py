@@ -14,6 +14,7 @@ import os
 import queue
 import re
 import resource
+import socket
 import sqlite3
 import unicodedata
 from collections import Counter, deque
@@ -407,8 +408,7 @@ class Turns:
 
     def append(self, channel):
         """Puts a connection behind those of its address. Those that were closed meanwhile go, with what they have sent."""
-        open_ones = {address: deque(one for one in channels if one.connected) for address, channels in self.waiting.items()}
-        self.waiting = {address: channels for address, channels in open_ones.items() if channels}
+        self.waiting = {address: left for address, channels in self.waiting.items() if (left := deque(one for one in channels if one.connected))}
         self.waiting.setdefault(network(channel.addr[0]), deque()).append(channel)
 
     def popleft(self):
@@ -459,8 +459,9 @@ def bound_connections():
 
         parser_class = Request
 
-        def __init__(self, *place, **named):
-            super().__init__(*place, **named)
+        def __init__(self, server, sock, *place, **named):
+            sock.setsockopt(socket.SOL_SOCKET, socket.SO_SNDBUF, 1 << 16)  # little, so that slow clients are not silent for long
+            super().__init__(server, sock, *place, **named)
             others = [other for other in list(self._map.values()) if isinstance(other, HTTPChannel) and other is not self and not other.will_close]
             if len(others) >= min(MOST_OPEN, files // 4):
                 to_close(others).will_close = True

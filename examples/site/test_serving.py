@@ -228,6 +228,22 @@ class Serving(unittest.TestCase):
             self.assertLess(sum(name.startswith("socket:") for name in self.open_files()), 15)
         self.assertLess(sum(map(peak, family(self.server.pid))), 200 << 10)
 
+    def test_who_takes_an_answer_slowly_gets_it(self):
+        """A client that takes 100 KB a second of a page of 4 MiB, for longer than a connection may be silent."""
+        self.server.kill()
+        self.serve("-c", "import app, waitress; make, app.table_of = waitress.create_server, lambda _: app.Markup('x' * (4 << 20)); "
+                   "waitress.create_server = lambda *words, **more: make(*words, **{**more, 'channel_timeout': 2, 'cleanup_interval': 1}); app.main()")
+        self.assertEqual(self.bring(form(*pairs(1)[0]))[0], 303)
+        with socket.socket() as client:
+            client.setsockopt(socket.SOL_SOCKET, socket.SO_RCVBUF, 1 << 15)
+            client.connect(("127.0.0.1", self.port))
+            client.sendall(b"GET /puzzles/1 HTTP/1.1\r\nHost: x\r\n\r\n")
+            said = b"".join(client.recv(20000) for _ in range(30) if time.sleep(0.2) is None)
+            said += b"".join(iter(lambda: client.recv(1 << 16), b""))
+        head, _, page = said.partition(b"\r\n\r\n")
+        self.assertEqual(len(page), int(head.partition(b"Content-Length: ")[2].split()[0]))
+        self.assertGreater(len(page), 4 << 20)
+
     def test_few_open_files_are_enough(self):
         """300 clients, each with a file of what it sent, where the site may open 256."""
         self.server.kill()
