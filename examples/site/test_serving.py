@@ -225,20 +225,21 @@ class Serving(unittest.TestCase):
                 client.sendall(b"GET /puzzles/1 HTTP/1.1\r\nHost: x\r\n\r\n")
                 self.assertEqual(client.recv(9), b"HTTP/1.1 ")
             self.assertEqual(self.listed(), 1)
-            self.assertLess(sum(name.startswith("socket:") for name in self.open_files()), 15)
+            self.assertLess(sum(name.startswith("socket:") for name in self.open_files()), 20)
         self.assertLess(sum(map(peak, family(self.server.pid))), 200 << 10)
 
+    @takes_long
     def test_who_takes_an_answer_slowly_gets_it(self):
-        """A client that takes 100 KB a second of a page of 4 MiB, for longer than a connection may be silent."""
+        """A client that takes 80 KB a second of a page of 4 MiB, for longer than a connection may be silent."""
         self.server.kill()
         self.serve("-c", "import app, waitress; make, app.table_of = waitress.create_server, lambda _: app.Markup('x' * (4 << 20)); "
-                   "waitress.create_server = lambda *words, **more: make(*words, **{**more, 'channel_timeout': 2, 'cleanup_interval': 1}); app.main()")
+                   "waitress.create_server = lambda *words, **more: make(*words, **{**more, 'channel_timeout': 5, 'cleanup_interval': 1}); app.main()")
         self.assertEqual(self.bring(form(*pairs(1)[0]))[0], 303)
         with socket.socket() as client:
             client.setsockopt(socket.SOL_SOCKET, socket.SO_RCVBUF, 1 << 15)
             client.connect(("127.0.0.1", self.port))
             client.sendall(b"GET /puzzles/1 HTTP/1.1\r\nHost: x\r\n\r\n")
-            said = b"".join(client.recv(20000) for _ in range(30) if time.sleep(0.2) is None)
+            said = b"".join(client.recv(20000) for _ in range(44) if time.sleep(0.25) is None)
             said += b"".join(iter(lambda: client.recv(1 << 16), b""))
         head, _, page = said.partition(b"\r\n\r\n")
         self.assertEqual(len(page), int(head.partition(b"Content-Length: ")[2].split()[0]))
@@ -288,7 +289,7 @@ class Serving(unittest.TestCase):
             time.sleep(0.5)
             self.assertEqual([self.listed() for _ in range(4)], [0] * 4)
             # Nothing is held of what the closed ones have sent.
-            self.assertLess(sum(name.endswith("(deleted)") for name in self.open_files()), 30)
+            self.assertLess(sum(name.endswith("(deleted)") for name in self.open_files()), 35)
 
     @takes_long
     def test_who_uploads_much_shuts_nobody_out_of_the_workers(self):
