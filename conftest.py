@@ -36,9 +36,23 @@ KEPT = pytest.StashKey()
 
 
 def pytest_addoption(parser):
-    parser.addoption('--released', action='store_true', help='tries the release in dist/, also where rt ci left programs')
-    parser.addoption('--with', action='append', default=[], choices=LONG, help='runs the tests with this mark, too')
-    parser.addoption('--counts', metavar='FILE', help='writes there how many tests passed and failed, and what was left out')
+    parser.addoption(
+        '--released',
+        action='store_true',
+        help='tries the release in dist/, also where rt ci left programs',
+    )
+    parser.addoption(
+        '--with',
+        action='append',
+        default=[],
+        choices=LONG,
+        help='runs the tests with this mark, too',
+    )
+    parser.addoption(
+        '--counts',
+        metavar='FILE',
+        help='writes there how many tests passed and failed, and what was left out',
+    )
 
 
 def pytest_configure(config):
@@ -57,10 +71,16 @@ def pytest_configure(config):
             config.stash[KEPT].unpack()
     kept = config.stash[KEPT]
     os.environ.update(
-        NONOBENCH=str(kept.program('nonobench')), NONOBENCH_LIBRARY=str(kept.library), PYTHONPATH=str(tried.ROOT / 'python' / 'src')
+        NONOBENCH=str(kept.program('nonobench')),
+        NONOBENCH_LIBRARY=str(kept.library),
+        PYTHONPATH=str(tried.ROOT / 'python' / 'src'),
     )
-    os.environ.setdefault('SLACK', '12')  # a factor for the bounds of time, since many tests run at once
-    os.environ['SHORT'] = '' if 'all' in config.getoption('with') else WHY_LONG.format('all')  # where there is no mark, and for sizes
+    os.environ.setdefault(
+        'SLACK', '12'
+    )  # a factor for the bounds of time, since many tests run at once
+    os.environ['SHORT'] = (
+        '' if 'all' in config.getoption('with') else WHY_LONG.format('all')
+    )  # where there is no mark, and for sizes
     if kept.released and tried.changed_crates() != []:
         os.environ['TRIED'] = kept.version  # tests/waits.mjs
 
@@ -78,7 +98,12 @@ def unread(file, kept):
     """Why a file of tests cannot be read here, or None: the library was not built, or Python lacks one."""
     if not file.name.startswith('test_') or not {'python', 'site'} & set(file.parts):
         return None
-    wanted = {module: name for stem, modules in WANTED.items() if file.stem.startswith(stem) for module, name in modules.items()}
+    wanted = {
+        module: name
+        for stem, modules in WANTED.items()
+        if file.stem.startswith(stem)
+        for module, name in modules.items()
+    }
     missing = [name for module, name in wanted.items() if not importlib.util.find_spec(module)]
     if not kept.library.exists():
         missing.append('c/out/libnonobench.so, which c/build makes')
@@ -99,7 +124,9 @@ def pytest_collection_modifyitems(config, items):
             if item.get_closest_marker(name):
                 item.add_marker(pytest.mark.skip(reason=WHY_LONG.format(name)))
         if not kept.released and 'made' in item.fixturenames and 'program' not in item.fixturenames:
-            item.add_marker(pytest.mark.xdist_group('packages'))  # one process makes them and tries them, and the others go on
+            item.add_marker(
+                pytest.mark.xdist_group('packages')
+            )  # one process makes them and tries them, and the others go on
         if kept.released and item.get_closest_marker('toolchain'):
             item.add_marker(pytest.mark.skip(reason='it wants the toolchain, or what rt ci leaves'))
 
@@ -107,9 +134,17 @@ def pytest_collection_modifyitems(config, items):
 def _wait(item, version, kept, changed):
     """Lets a test of new words wait for the release that has them."""
     if tried.as_numbers(version) > tried.as_numbers(tried.version_of_tree()):
-        raise pytest.UsageError(f'{item.nodeid}: since {version}, which is later than the version of the tree')
-    if kept.released and changed != [] and tried.as_numbers(version) > tried.as_numbers(kept.version):
-        item.add_marker(pytest.mark.skip(reason=f'it waits for the release {version}, which has its words'))
+        raise pytest.UsageError(
+            f'{item.nodeid}: since {version}, which is later than the version of the tree'
+        )
+    if (
+        kept.released
+        and changed != []
+        and tried.as_numbers(version) > tried.as_numbers(kept.version)
+    ):
+        item.add_marker(
+            pytest.mark.skip(reason=f'it waits for the release {version}, which has its words')
+        )
 
 
 def pytest_terminal_summary(terminalreporter, config):
@@ -119,12 +154,24 @@ def pytest_terminal_summary(terminalreporter, config):
     stats = terminalreporter.stats
     passed = len(stats.get('passed', ()))
     failed = len(stats.get('failed', ())) + len(stats.get('error', ()))
-    reasons = collections.Counter(report.longrepr[2].removeprefix('Skipped: ') for report in stats.get('skipped', ()))
-    reasons.update(why for report in stats.get('passed', ()) for name, why in report.user_properties if name == 'left out')
+    reasons = collections.Counter(
+        report.longrepr[2].removeprefix('Skipped: ') for report in stats.get('skipped', ())
+    )
+    reasons.update(
+        why
+        for report in stats.get('passed', ())
+        for name, why in report.user_properties
+        if name == 'left out'
+    )
     files = [*tried.ROOT.glob('python/tests/*.py'), *tried.ROOT.glob('examples/site/*.py')]
     reasons.update(why for why in (unread(file, config.stash[KEPT]) for file in files) if why)
-    lines = [f'{reason}: {count} {"test" if count == 1 else "tests"}' for reason, count in sorted(reasons.items())]
-    terminalreporter.write_line('left out in this run:' if lines else 'nothing was left out in this run')
+    lines = [
+        f'{reason}: {count} {"test" if count == 1 else "tests"}'
+        for reason, count in sorted(reasons.items())
+    ]
+    terminalreporter.write_line(
+        'left out in this run:' if lines else 'nothing was left out in this run'
+    )
     for line in lines:
         terminalreporter.write_line(f'    {line}')
     if config.stash[KEPT].released:
@@ -136,14 +183,21 @@ def pytest_terminal_summary(terminalreporter, config):
         )
         terminalreporter.write_line(f'tried: {config.stash[KEPT].name}; {told}')
     if config.getoption('counts'):
-        Path(config.getoption('counts')).write_text(''.join(f'{line}\n' for line in [f'{passed} {failed}', *lines]))
+        Path(config.getoption('counts')).write_text(
+            ''.join(f'{line}\n' for line in [f'{passed} {failed}', *lines])
+        )
 
 
 def pytest_generate_tests(metafunc):
     """Tests of the program are run with each program that there is."""
     if 'program' in metafunc.fixturenames:
         toolchain, whole = pytest.mark.toolchain, pytest.mark.all
-        programs = {'nonobench': (), 'nonobench.by-rattle': (toolchain,), 'npm': (whole,), 'archive': (whole, toolchain)}
+        programs = {
+            'nonobench': (),
+            'nonobench.by-rattle': (toolchain,),
+            'npm': (whole,),
+            'archive': (whole, toolchain),
+        }
         metafunc.parametrize(
             'program',
             [pytest.param(name, marks=marks, id=name) for name, marks in programs.items()],
@@ -218,17 +272,25 @@ def made_by(*words, **env):
 @pytest.fixture(scope='session')
 def compiled(shared):
     """A folder with the object file of the program, and with LLVM's module of which it was made."""
-    return tried.once(shared / 'compiled', lambda folder: made_by(tried.ROOT / 'packages' / 'object', folder / 'nonobench.o'))
+    return tried.once(
+        shared / 'compiled',
+        lambda folder: made_by(tried.ROOT / 'packages' / 'object', folder / 'nonobench.o'),
+    )
 
 
 @pytest.fixture(scope='session')
 def others(shared, compiled):
     """Library and program for other systems, a folder for each that has a compiler here."""
     tried.needs('rt', 'node')
-    modules = {'MODULE': tried.needs_file(tried.ROOT / 'web/out/module.bc', 'bash .ci/run'), 'PROGRAM': compiled / 'nonobench.bc'}
+    modules = {
+        'MODULE': tried.needs_file(tried.ROOT / 'web/out/module.bc', 'bash .ci/run'),
+        'PROGRAM': compiled / 'nonobench.bc',
+    }
 
     def build(folder):
-        run = tried.ended([tried.ROOT / 'platforms' / 'build', folder], env={**os.environ, **modules})
+        run = tried.ended(
+            [tried.ROOT / 'platforms' / 'build', folder], env={**os.environ, **modules}
+        )
         return '' if run.status in (0, 77) else (run.wrote + run.said).decode()[-4000:]
 
     return tried.once(shared / 'others', build)
@@ -239,13 +301,22 @@ def made(kept, shared, request):
     """The folder of the packages: made of what rt ci left, or dist/."""
     if kept.released:
         return tried.ROOT / 'dist'
-    parts = {'OBJECT': str(request.getfixturevalue('compiled') / 'nonobench.o'), 'OTHERS': str(request.getfixturevalue('others'))}
-    return tried.once(shared / 'made', lambda folder: made_by(tried.ROOT / 'release', folder, **parts))
+    parts = {
+        'OBJECT': str(request.getfixturevalue('compiled') / 'nonobench.o'),
+        'OTHERS': str(request.getfixturevalue('others')),
+    }
+    return tried.once(
+        shared / 'made', lambda folder: made_by(tried.ROOT / 'release', folder, **parts)
+    )
 
 
 def lay_scripts(package):
     """Puts the scripts of this tree into an installed package of the release."""
-    for file in [*tried.ROOT.glob('packages/npm/*.mjs'), tried.ROOT / 'packages/npm/index.d.mts', tried.ROOT / 'web/nonobench.mjs']:
+    for file in [
+        *tried.ROOT.glob('packages/npm/*.mjs'),
+        tried.ROOT / 'packages/npm/index.d.mts',
+        tried.ROOT / 'web/nonobench.mjs',
+    ]:
         if file.name != 'test.mjs':
             shutil.copy(file, package)
     shutil.copy(tried.ROOT / 'web/nonobench.d.ts', package / 'nonobench.d.mts')
@@ -260,12 +331,16 @@ def npm(made, kept, shared):
     def install(folder):
         modules = folder / 'node_modules'
         if shutil.which('npm'):
-            run = tried.clean(['npm', 'install', '--silent', '--no-audit', '--no-fund', package], cwd=folder)
+            run = tried.clean(
+                ['npm', 'install', '--silent', '--no-audit', '--no-fund', package], cwd=folder
+            )
             why = run.said.decode() if run.status else ''
         else:
             (modules / '.bin').mkdir(parents=True)
             (modules / '.bin' / 'nonobench').symlink_to('../nonobench/program.mjs')
-            why = made_by('tar', 'xzf', package, '-C', modules) or made_by('mv', modules / 'package', modules / 'nonobench')
+            why = made_by('tar', 'xzf', package, '-C', modules) or made_by(
+                'mv', modules / 'package', modules / 'nonobench'
+            )
         if kept.released and not why:
             lay_scripts(modules / 'nonobench')
         return why

@@ -27,27 +27,62 @@ GUARD = "web/guard.c"
 SCRIPT = "web/nonobench.mjs"
 PYTHON = "python/src/nonobench/_library.py"
 CHECK_CALLS, CHECK_STATUS = "crates/check_host/src/calls.rt", "crates/check_host/src/status.rt"
-CHECK_HEADER, CHECK_GUARD, CHECK_SCRIPT, WITHIN = "c/nonocheck.h", "web/check_guard.c", "web/check.mjs", "web/within.h"
+CHECK_HEADER, CHECK_GUARD, CHECK_SCRIPT, WITHIN = (
+    "c/nonocheck.h",
+    "web/check_guard.c",
+    "web/check.mjs",
+    "web/within.h",
+)
 # What stands after it in the header is C, and not the crate's.
 OWN_C = "/* ---- one question each"
 # A pointer to bytes and a length are two arguments, what takes no bytes is none. `pointer TO` names what lies there.
 RUST = {
-    "Global": [], "": ["nothing"], "bool": ["bool"], "u32": ["u32"], "usize": ["u64"], "&mut u32": ["pointer u32"], "&mut bool": ["pointer bool"],
-    "&[u8]": ["pointer const u8", "u64"], "&mut [u8]": ["pointer u8", "u64"], "&[u16]": ["pointer const u16", "u64"],
-    "&mut Held": ["pointer desk"], "&mut DeskCell": ["pointer desk"], "DeskCell": ["desk"],
+    "Global": [],
+    "": ["nothing"],
+    "bool": ["bool"],
+    "u32": ["u32"],
+    "usize": ["u64"],
+    "&mut u32": ["pointer u32"],
+    "&mut bool": ["pointer bool"],
+    "&[u8]": ["pointer const u8", "u64"],
+    "&mut [u8]": ["pointer u8", "u64"],
+    "&[u16]": ["pointer const u16", "u64"],
+    "&mut Held": ["pointer desk"],
+    "&mut DeskCell": ["pointer desk"],
+    "DeskCell": ["desk"],
 }
 C = {
-    "void": "nothing", "bool": "bool", "_Bool": "bool", "bool *": "pointer bool", "_Bool *": "pointer bool",
-    "uint32_t": "u32", "unsigned": "u32", "uint32_t *": "pointer u32", "unsigned *": "pointer u32",
-    "size_t": "u64", "u64": "u64", "u64 *": "pointer u64",
-    "uint8_t *": "pointer u8", "byte *": "pointer u8",
-    "const uint8_t *": "pointer const u8", "const byte *": "pointer const u8",
-    "const uint16_t *": "pointer const u16", "const sample *": "pointer const u16",
-    "nonobench_desk *": "desk", "nonobench_desk **": "pointer desk", "void *": "pointer desk",
+    "void": "nothing",
+    "bool": "bool",
+    "_Bool": "bool",
+    "bool *": "pointer bool",
+    "_Bool *": "pointer bool",
+    "uint32_t": "u32",
+    "unsigned": "u32",
+    "uint32_t *": "pointer u32",
+    "unsigned *": "pointer u32",
+    "size_t": "u64",
+    "u64": "u64",
+    "u64 *": "pointer u64",
+    "uint8_t *": "pointer u8",
+    "byte *": "pointer u8",
+    "const uint8_t *": "pointer const u8",
+    "const byte *": "pointer const u8",
+    "const uint16_t *": "pointer const u16",
+    "const sample *": "pointer const u16",
+    "nonobench_desk *": "desk",
+    "nonobench_desk **": "pointer desk",
+    "void *": "pointer desk",
 }
 CTYPES = {
-    "None": ["nothing"], "number": ["u32"], "ctypes.c_size_t": ["u64"], "ctypes.c_bool": ["bool"], "ctypes.c_void_p": ["desk"],
-    "cell": ["pointer desk"], "ctypes.c_char_p": ["pointer u8"], "*bytes_of": ["pointer u8", "u64"],
+    "None": ["nothing"],
+    "number": ["u32"],
+    "ctypes.c_size_t": ["u64"],
+    "ctypes.c_bool": ["bool"],
+    "ctypes.c_void_p": ["desk"],
+    "cell": ["pointer desk"],
+    "ctypes.c_char_p": ["pointer u8"],
+    "*bytes_of": ["pointer u8", "u64"],
     "ctypes.POINTER(number)": ["pointer u32"],
 }
 # What web/guard.c knows of a desk: a number, which lies behind a pointer to one.
@@ -64,7 +99,9 @@ def without_comments(text):
 def exported(text):
     """The functions that the crate exports: each with its result and its arguments as C sees them."""
     found = {}
-    pattern = r'#\[unsafe\(no_mangle\)\]\s+pub extern "C" fn (\w+)\((.*?)\)(?:\s*->\s*(\w+))?\s*[{re]'
+    pattern = (
+        r'#\[unsafe\(no_mangle\)\]\s+pub extern "C" fn (\w+)\((.*?)\)(?:\s*->\s*(\w+))?\s*[{re]'
+    )
     for name, inside, result in re.findall(pattern, text, flags=re.S):
         types = [part.split(":", 1)[1].strip() for part in inside.split(",") if ":" in part]
         found[name] = [c for rust in [result, *types] for c in RUST.get(rust, [f"unknown: {rust}"])]
@@ -93,8 +130,14 @@ def prototypes(text):
 def tabled(text):
     """The functions of Python's table, in the same form."""
     found = {}
-    for name, result, inside in re.findall(r'^ +"(\w+)": \(([\w.]+), \[(.*?)\]\),$', text, flags=re.M):
-        kinds = [c for ctype in [result, *inside.split(", ")] for c in CTYPES.get(ctype, [f"unknown: {ctype}"])]
+    for name, result, inside in re.findall(
+        r'^ +"(\w+)": \(([\w.]+), \[(.*?)\]\),$', text, flags=re.M
+    ):
+        kinds = [
+            c
+            for ctype in [result, *inside.split(", ")]
+            for c in CTYPES.get(ctype, [f"unknown: {ctype}"])
+        ]
         found["nonobench_" + name] = kinds
     return found
 
@@ -103,13 +146,17 @@ def llvm_type(kind):
     """What LLVM hands over for an argument."""
     if kind.startswith("pointer"):
         return "ptr"
-    return {"u32": "i32", "u64": "i64", "desk": "i64", "bool": "i1", "nothing": "void"}.get(kind, kind)
+    return {"u32": "i32", "u64": "i64", "desk": "i64", "bool": "i1", "nothing": "void"}.get(
+        kind, kind
+    )
 
 
 def defined(text):
     """The functions that LLVM's module defines, with the types of result and arguments."""
     found = {}
-    for words, name, inside in re.findall(r"^define ([^@\n]*)@(nonobench_\w+)\((.*?)\)[^()\n]*\{$", text, flags=re.M):
+    for words, name, inside in re.findall(
+        r"^define ([^@\n]*)@(nonobench_\w+)\((.*?)\)[^()\n]*\{$", text, flags=re.M
+    ):
         arguments = re.findall(r"(?:^|, )(ptr|i\d+)\b", re.sub(r"\([^()]*\)", "", inside))
         found[name] = [words.split()[-1]] + arguments
     return found
@@ -119,7 +166,10 @@ def guarded(text):
     """How many arguments each function has that a guard exports."""
     pattern = r"CALL\((\w+)\) \w+ \w+\(([^()]*)\)"
     prefix = re.search(r'export_name\("(\w+_)"', text)[1]
-    return {prefix + name: inside.count(",") + 1 for name, inside in re.findall(pattern, without_comments(text))}
+    return {
+        prefix + name: inside.count(",") + 1
+        for name, inside in re.findall(pattern, without_comments(text))
+    }
 
 
 def script_calls(text):
@@ -148,7 +198,10 @@ def statuses(files):
         (WITHIN, numbers(files[WITHIN], r"\b([A-Z]+) = (\d+)\b")),
         (CHECK_STATUS, numbers(files[CHECK_STATUS], r"pub const (\w+): u32 = (\d+);")),
         (CHECK_HEADER, numbers(files[CHECK_HEADER], r"NONOCHECK_([A-Z]+) = (\d+)\b")),
-        (CHECK_SCRIPT, numbers(files[CHECK_SCRIPT], r"const (DONE|REFUSED|MEMORY|CLOSED|OPTIONS) = (\d+);")),
+        (
+            CHECK_SCRIPT,
+            numbers(files[CHECK_SCRIPT], r"const (DONE|REFUSED|MEMORY|CLOSED|OPTIONS) = (\d+);"),
+        ),
         (SCRIPT, numbers(files[SCRIPT], r"const (DONE|REFUSED|MEMORY|CLOSED|OPTIONS) = (\d+);")),
         (PYTHON, dict(zip(line[1].split(", "), map(int, line[2].split(", ")))) if line else {}),
     ]
@@ -185,10 +238,16 @@ def differences(files, module=None):
     checks = exported(files[CHECK_CALLS])
     yield from differing(CHECK_HEADER, checks, prototypes(files[CHECK_HEADER]))
     yield from differing(CHECK_GUARD, checks, prototypes(files[CHECK_GUARD]))
-    yield from differing(f"{CHECK_GUARD}, what it exports", {name: len(kinds) - 1 for name, kinds in checks.items()}, guarded(files[CHECK_GUARD]))
+    yield from differing(
+        f"{CHECK_GUARD}, what it exports",
+        {name: len(kinds) - 1 for name, kinds in checks.items()},
+        guarded(files[CHECK_GUARD]),
+    )
     told, again = statuses(files)
     for file, found in again:
-        yield from differing(file, {name: told.get(name) for name in found} or {"a status": "there"}, found)
+        yield from differing(
+            file, {name: told.get(name) for name in found} or {"a status": "there"}, found
+        )
 
 
 # Differences that must be found: a file, a text of it and what is put in its place.
@@ -198,21 +257,45 @@ PLANTED = [
     (HEADER, "uint32_t handle, const uint8_t *lines", "int handle, const uint8_t *lines"),
     (HEADER, "uint32_t nonobench_close(", "size_t nonobench_close("),
     (HEADER, "NONOBENCH_CLOSED = 5", "NONOBENCH_CLOSED = 3"),
-    (GUARD, "nonobench_say(void *, unsigned, const byte *, u64);", "nonobench_say(void *, u64, const byte *, u64);"),
+    (
+        GUARD,
+        "nonobench_say(void *, unsigned, const byte *, u64);",
+        "nonobench_say(void *, u64, const byte *, u64);",
+    ),
     (GUARD, "u64 nonobench_version(byte *, u64);", "u64 nonobench_version(byte *, u64, u64);"),
     (GUARD, "unsigned close_within(u64 desk, unsigned handle)", "unsigned close_within(u64 desk)"),
-    (GUARD, "nonobench_prove(void *, const byte *, u64, const byte *, u64);", "nonobench_prove(void *, const byte *, u64);"),
+    (
+        GUARD,
+        "nonobench_prove(void *, const byte *, u64, const byte *, u64);",
+        "nonobench_prove(void *, const byte *, u64);",
+    ),
     (SCRIPT, "const MEMORY = 4;", "const MEMORY = 5;"),
-    (SCRIPT, "nonobench_prove(this.#cell, file.at, file.size, word.at, word.size)", "nonobench_prove(this.#cell, file.at, file.size)"),
-    (PYTHON, '"check_published": (number, [cell, *bytes_of, ', '"check_published": (number, [cell, '),
+    (
+        SCRIPT,
+        "nonobench_prove(this.#cell, file.at, file.size, word.at, word.size)",
+        "nonobench_prove(this.#cell, file.at, file.size)",
+    ),
+    (
+        PYTHON,
+        '"check_published": (number, [cell, *bytes_of, ',
+        '"check_published": (number, [cell, ',
+    ),
     (GUARD, "u64 givens, u64 givens_size, ", "u64 givens, "),
-    (SCRIPT, "nonobench_say(cell, handle, text.at, text.size)", "nonobench_say(cell, handle, text.at)"),
+    (
+        SCRIPT,
+        "nonobench_say(cell, handle, text.at, text.size)",
+        "nonobench_say(cell, handle, text.at)",
+    ),
     (PYTHON, "= 0, 1, 4, 5, 6", "= 0, 1, 4, 6, 5"),
     (PYTHON, '"close": (number, [cell, number]),', '"close": (number, [cell, ctypes.c_size_t]),'),
     (STATUS, "OPTIONS: u32 = 6", "OPTIONS: u32 = 7"),
     (WITHIN, "OPTIONS = 6", "OPTIONS = 5"),
     (CHECK_CALLS, "givens: &[u8],", ""),
-    (CHECK_HEADER, "const uint16_t *background, size_t samples, uint8_t *out, size_t room);", "const uint16_t *background, uint8_t *out, size_t room);"),
+    (
+        CHECK_HEADER,
+        "const uint16_t *background, size_t samples, uint8_t *out, size_t room);",
+        "const uint16_t *background, uint8_t *out, size_t room);",
+    ),
     (CHECK_GUARD, "const byte *, u64, const sample *", "const byte *, u64, const byte *"),
     (CHECK_GUARD, "u64 givens, u64 givens_size, ", "u64 givens, "),
     (CHECK_STATUS, "MEMORY: u32 = 4", "MEMORY: u32 = 5"),
@@ -227,7 +310,9 @@ def unseen(files, module):
             yield f"{file}: nothing to plant at: {old}"
         elif not list(differences({**files, file: files[file].replace(old, new, 1)}, module)):
             yield f"{file}: not found where it is planted: {new or 'nothing in place of ' + old}"
-    if module is not None and not list(differences(files, module.replace("@nonobench_say(ptr", "@nonobench_say(i64"))):
+    if module is not None and not list(
+        differences(files, module.replace("@nonobench_say(ptr", "@nonobench_say(i64"))
+    ):
         yield "the module: a planted difference is not found"
 
 
@@ -239,8 +324,12 @@ def main():
     found = list(differences(files, module)) or list(unseen(files, module))
     told, again = statuses(files)
     beside = "the module too" if module is not None else "no module was named"
-    print(*found, f"abi: {len(exported(files[CALLS]) | exported(files[CHECK_CALLS]))} functions, {beside}; {len(told)} statuses in {len(again)} files; "
-          f"{len(PLANTED) + (module is not None)} planted; {len(found)} differences", sep="\n")
+    print(
+        *found,
+        f"abi: {len(exported(files[CALLS]) | exported(files[CHECK_CALLS]))} functions, {beside}; {len(told)} statuses in {len(again)} files; "
+        f"{len(PLANTED) + (module is not None)} planted; {len(found)} differences",
+        sep="\n",
+    )
     return 1 if found else 0
 
 

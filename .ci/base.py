@@ -29,34 +29,70 @@ class Claim(NamedTuple):
     It may need so many lines at most, by its clauses and with the views: a larger number needs its reason in docs/DECISIONS.md. In the
     base of some claims a name may mean two things: they span formats, each with words and lines of its own.
     """
+
     clauses: list
     most: tuple
     is_shared: bool = True
 
 
 CLAIMS = {
-    'The verdict is true': Claim([('live_audit/src/bench.rt', 'verdict', 'headline')], (60, 210), False),
-    'A certificate proves uniqueness': Claim([('answers/src/check.rt', 'run_check_published', 'unique')], (238, 238), False),
-    'So it does in its own givens': Claim([('answers/src/check.rt', 'run_check', 'unique')], (371, 371)),
-    'A check answers exactly': Claim([
-        ('cert_check/src/checking.rt', 'check_cert', name) for name in ('first', 'proof', 'only', 'unique')
-    ], (316, 321)),
-    'The checker alone does so, too': Claim([
-        ('check_host/src/calls.rt', call, 'checks') for call in ('nonocheck_check', 'nonocheck_check_published')
-    ], (732, 732)),
-    'A refused edit changes nothing': Claim([
-        ('live_audit/src/bench.rt', call, 'refused') for call in ('apply', 'undo', 'redo')
-    ], (143, 231), False),
+    'The verdict is true': Claim(
+        [('live_audit/src/bench.rt', 'verdict', 'headline')], (60, 210), False
+    ),
+    'A certificate proves uniqueness': Claim(
+        [('answers/src/check.rt', 'run_check_published', 'unique')], (238, 238), False
+    ),
+    'So it does in its own givens': Claim(
+        [('answers/src/check.rt', 'run_check', 'unique')], (371, 371)
+    ),
+    'A check answers exactly': Claim(
+        [
+            ('cert_check/src/checking.rt', 'check_cert', name)
+            for name in ('first', 'proof', 'only', 'unique')
+        ],
+        (316, 321),
+    ),
+    'The checker alone does so, too': Claim(
+        [
+            ('check_host/src/calls.rt', call, 'checks')
+            for call in ('nonocheck_check', 'nonocheck_check_published')
+        ],
+        (732, 732),
+    ),
+    'A refused edit changes nothing': Claim(
+        [('live_audit/src/bench.rt', call, 'refused') for call in ('apply', 'undo', 'redo')],
+        (143, 231),
+        False,
+    ),
     'It stays true': Claim([('live_audit/src/laws.rt', 'lists_stay_audited', '')], (1203, 1203)),
-    "A session's answers are right": Claim([('session/src/session.rt', 'run_session', 'truth')], (1686, 1772)),
-    'Published pairs are accepted': Claim([
-        *(('published/src/laws.rt', 'published_pairs_are_accepted', name) for name in ('accepted', 'made')),
-        *(('published/src/laws.rt', law, '') for law in ('unique_pictures_are_published', 'plain_lines_are_one_solution')),
-    ], (2245, 2320)),
-    'What prove prints is accepted': Claim([('published/src/laws.rt', 'proofs_are_verified', '')], (744, 744)),
-    'A complete search decides': Claim([('published/src/laws.rt', 'complete_searches_decide', '')], (735, 735)),
-    'A puzzle that is fit has one solution': Claim([('published/src/laws.rt', 'fit_puzzles_are_fit', '')], (1787, 1787)),
-    'The program does what its arguments ask for': Claim([('program/src/running.rt', 'run', '')], (3480, 3480)),
+    "A session's answers are right": Claim(
+        [('session/src/session.rt', 'run_session', 'truth')], (1686, 1772)
+    ),
+    'Published pairs are accepted': Claim(
+        [
+            *(
+                ('published/src/laws.rt', 'published_pairs_are_accepted', name)
+                for name in ('accepted', 'made')
+            ),
+            *(
+                ('published/src/laws.rt', law, '')
+                for law in ('unique_pictures_are_published', 'plain_lines_are_one_solution')
+            ),
+        ],
+        (2245, 2320),
+    ),
+    'What prove prints is accepted': Claim(
+        [('published/src/laws.rt', 'proofs_are_verified', '')], (744, 744)
+    ),
+    'A complete search decides': Claim(
+        [('published/src/laws.rt', 'complete_searches_decide', '')], (735, 735)
+    ),
+    'A puzzle that is fit has one solution': Claim(
+        [('published/src/laws.rt', 'fit_puzzles_are_fit', '')], (1787, 1787)
+    ),
+    'The program does what its arguments ask for': Claim(
+        [('program/src/running.rt', 'run', '')], (3480, 3480)
+    ),
 }
 # From this many words on, a comment's first sentence is shortened in docs/BASE.md.
 LONG = 35
@@ -79,7 +115,13 @@ class Definition:
     """A definition of a file in specs/: its name, first line, comment and lines."""
 
     def __init__(self, module, name, line, comment, kind):
-        self.module, self.name, self.line, self.comment, self.kind = module, name, line, comment, kind
+        self.module, self.name, self.line, self.comment, self.kind = (
+            module,
+            name,
+            line,
+            comment,
+            kind,
+        )
         self.lines = []
 
     @property
@@ -94,12 +136,16 @@ class Definition:
         """The lines of code that are quoted: an abbreviation's without its type."""
         lines = self.code()
         if lines[0].startswith(('abbrev', 'unfoldable')):
-            return lines[next((n for n, line in enumerate(lines) if line.startswith(self.name)), 0):]
+            return lines[
+                next((n for n, line in enumerate(lines) if line.startswith(self.name)), 0) :
+            ]
         return lines
 
     def sentence(self):
         """The first sentence of the comment, a long one up to its first semicolon, or what the definition is of."""
-        text = ' '.join(line.lstrip('- ').strip() for line in self.comment if not line.startswith('-- ----'))
+        text = ' '.join(
+            line.lstrip('- ').strip() for line in self.comment if not line.startswith('-- ----')
+        )
         if not text:
             return f'`{self.lines[0].strip()}`'
         first = re.split(r'(?<=[.:]) (?=[A-Z])', text)[0].rstrip('.:')
@@ -110,7 +156,9 @@ class Definition:
 
 def imports_of(line):
     """What an import line brings: pairs of a name here, and the module with the name there; a module has no name there."""
-    found = re.match(r'(?:pub |ghost )?use (Rattle[\w.\-]*)(?:\.\{(.*)\})?(?: as (\w+))?;?\s*$', line)
+    found = re.match(
+        r'(?:pub |ghost )?use (Rattle[\w.\-]*)(?:\.\{(.*)\})?(?: as (\w+))?;?\s*$', line
+    )
     if not found:
         return
     module, names, alias = found.groups()
@@ -170,7 +218,9 @@ class Module:
         found = re.match(r'(?:abbrev |unfoldable )*(?:pub )?(record |data )?([^\s:({]+)', line)
         name = found[2]
         if name not in self.definitions:
-            self.definitions[name] = Definition(self.name, name, number, comment, (found[1] or '').strip())
+            self.definitions[name] = Definition(
+                self.name, name, number, comment, (found[1] or '').strip()
+            )
         self.definitions[name].lines.append(line)
         return self.definitions[name]
 
@@ -185,7 +235,13 @@ class House:
             self.modules[module.name] = module
             if path.name == 'Lib.antt':
                 crate = module.name.rpartition('.')[0]
-                self.other_names.update({f'{crate}.{here}': there for here, (there, name) in module.imports.items() if name is None})
+                self.other_names.update(
+                    {
+                        f'{crate}.{here}': there
+                        for here, (there, name) in module.imports.items()
+                        if name is None
+                    }
+                )
 
     def find(self, module, name):
         """The definition of a name in a module, through what is exported again; None where it is none of this repository's."""
@@ -233,32 +289,48 @@ class House:
         imports = {}
         for brought in re.findall(r'^ *(ghost use [^;]*;)', text, re.M):
             imports.update(imports_of(re.sub(r'\s+', ' ', brought).replace(', }', '}')))
-        found = [self.find(*imports[word]) for word in WORD.findall(words) if word in imports and imports[word][1]]
+        found = [
+            self.find(*imports[word])
+            for word in WORD.findall(words)
+            if word in imports and imports[word][1]
+        ]
         return [definition for definition in found if definition is not None]
 
     def roots(self, file, function, clause):
         """The definitions that a clause of a function names."""
-        named = self.named((CRATES / file).read_text(encoding='utf-8'), clause_of(file, function, clause))
+        named = self.named(
+            (CRATES / file).read_text(encoding='utf-8'), clause_of(file, function, clause)
+        )
         if not named:
-            sys.exit(f'crates/{file}: the clause {clause or "without a name"} of {function} names no definition')
+            sys.exit(
+                f'crates/{file}: the clause {clause or "without a name"} of {function} names no definition'
+            )
         return named
 
     def view_roots(self, rust, file, function, clause):
         """The definitions by which a clause of a function sees its values: those that the views of their types name."""
+
         def equation(kind, head):
             found = self.named(kind.text, head)
             return found[0].said()[0] if found else None
+
         path = CRATES / file
         values = values_of(rust, path, path.read_text(encoding='utf-8'), function)
         kinds = named_in(clause_of(file, function, clause), values)
-        return [definition for kind, words in views_of(rust, kinds, equation) for definition in self.named(kind.text, words)]
+        return [
+            definition
+            for kind, words in views_of(rust, kinds, equation)
+            for definition in self.named(kind.text, words)
+        ]
 
 
 def clause_of(file, function, clause):
     """The text of a clause of a function, without its brackets."""
     text = (CRATES / file).read_text(encoding='utf-8')
     body = re.search(rf'\bfn {function}\b.*?^\s*{{', text, re.M | re.S)
-    found = body and re.search(rf'ensures\*? {clause + " " if clause else ""}{{(.*?)}}\n', body[0], re.S)
+    found = body and re.search(
+        rf'ensures\*? {clause + " " if clause else ""}{{(.*?)}}\n', body[0], re.S
+    )
     if not found:
         sys.exit(f'crates/{file}: {function} has no clause {clause or "without a name"}')
     return found[1]
@@ -271,7 +343,11 @@ class Base:
         roots = [root for clause in clauses for root in house.roots(*clause)]
         views = [root for clause in clauses for root in house.view_roots(rust, *clause)]
         self.definitions = house.base(roots)
-        self.views = [definition for definition in house.base(roots + views) if definition not in set(self.definitions)]
+        self.views = [
+            definition
+            for definition in house.base(roots + views)
+            if definition not in set(self.definitions)
+        ]
 
     def all(self):
         return self.definitions + self.views
@@ -290,9 +366,11 @@ def size(definitions):
 
 def counts(base):
     """The counts of a base, in words."""
+
     def of(definitions):
         files = len({definition.module for definition in definitions})
         return f'{len(definitions)} definitions, {size(definitions)} lines, {files} files'
+
     return of(base.definitions) + (f'; with the views, {of(base.all())}' if base.views else '')
 
 
@@ -310,7 +388,10 @@ def page(found):
     parts, known = [HEAD], set()
     quoted = {definition for title in QUOTED for definition in found[title].all()}
     for title, base in found.items():
-        names = ', '.join(f'`{function}`{f" ({clause})" if clause else ""}' for _, function, clause in CLAIMS[title].clauses)
+        names = ', '.join(
+            f'`{function}`{f" ({clause})" if clause else ""}'
+            for _, function, clause in CLAIMS[title].clauses
+        )
         parts.append(f'## {title}\n\n{names}: {counts(base)}.\n')
         fresh = [definition for definition in base.definitions if definition not in known]
         views = [definition for definition in base.views if definition not in known]
@@ -318,7 +399,9 @@ def page(found):
         parts.extend(items(fresh, quoted))
         parts.append('' if fresh else 'Nothing that is not above.\n')
         if views:
-            parts.extend(['With the views of the types of its values:\n', *items(views, quoted), ''])
+            parts.extend(
+                ['With the views of the types of its values:\n', *items(views, quoted), '']
+            )
     return re.sub(r'\n{3,}', '\n\n', '\n'.join(parts)).rstrip('\n') + '\n'
 
 
@@ -355,7 +438,9 @@ def main():
     found = bases()
     if '--counts' in sys.argv[1:]:
         for title, base in found.items():
-            print(f'{title}: {counts(base)}; {len(doubles(base.definitions))} names mean two things')
+            print(
+                f'{title}: {counts(base)}; {len(doubles(base.definitions))} names mean two things'
+            )
         return 0
     if '--write' in sys.argv[1:]:
         PAGE.write_text(page(found), encoding='utf-8')

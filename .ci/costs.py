@@ -51,12 +51,17 @@ def main():
     edits = {crate: minutes.get(crate, {}).get('edits', 0) for crate in lower}
     own = {crate: sum(minutes.get(crate, {}).values()) - edits[crate] for crate in lower}
     whole = {crate: sum(own[one] + edits[one] for one in above(crate, lower)) for crate in lower}
-    rows = [f'| `{crate}` | {own[crate]:.1f} | {edits[crate]:.1f} | {whole[crate]:.0f} |\n' for crate in sorted(minutes.keys() & lower.keys(), key=lambda one: (-whole[one], one))]
+    rows = [
+        f'| `{crate}` | {own[crate]:.1f} | {edits[crate]:.1f} | {whole[crate]:.0f} |\n'
+        for crate in sorted(minutes.keys() & lower.keys(), key=lambda one: (-whole[one], one))
+    ]
     date = datetime.date.fromtimestamp(log.stat().st_mtime)
     page = ROOT / 'crates' / 'README.md'
     before, rest = page.read_text().split(START)
     after = rest.split(END)[1]
-    page.write_text(before + START + HEAD.format(date=f'{date.day} {date:%B %Y}') + ''.join(rows) + END + after)
+    page.write_text(
+        before + START + HEAD.format(date=f'{date.day} {date:%B %Y}') + ''.join(rows) + END + after
+    )
 
 
 if __name__ == '__main__':

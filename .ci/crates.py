@@ -16,15 +16,28 @@ LIST = ROOT / 'crates.txt'
 ROOMS = {
     'Ground': ('pictures and their clues', 'picture flaws clues clue_laws'),
     'Line': ('one line and its clue', 'line_facts line_settle'),
-    'Settling': ('all lines together, with a reason for each step', 'justify worklist fixpoint grade propagate retract'),
-    'Checking': ('certificates as texts, and their checker', 'trail cert_text cert_check tree_steps cert_figures givens_text'),
-    'Search': ('other pictures, and certificates that there is none',
-               'split_choice lemma_search lemma_proof second_search certificate assess'),
+    'Settling': (
+        'all lines together, with a reason for each step',
+        'justify worklist fixpoint grade propagate retract',
+    ),
+    'Checking': (
+        'certificates as texts, and their checker',
+        'trail cert_text cert_check tree_steps cert_figures givens_text',
+    ),
+    'Search': (
+        'other pictures, and certificates that there is none',
+        'split_choice lemma_search lemma_proof second_search certificate assess',
+    ),
     'Bench': ('a picture kept up to date while it is edited', 'edits kept_audit live_audit'),
-    'Outside': ('texts, sessions, the program and its hosts',
-                'ppm_text text_check non_text command_text report_text grade_text assess_text session program_options command_line answers published program '
-                'claims check_host web nonobench'),
-    'Tests': ('programs that only tests run', 'table_words tables search_tables lemma_tables cert_tables refused'),
+    'Outside': (
+        'texts, sessions, the program and its hosts',
+        'ppm_text text_check non_text command_text report_text grade_text assess_text session program_options command_line answers published program '
+        'claims check_host web nonobench',
+    ),
+    'Tests': (
+        'programs that only tests run',
+        'table_words tables search_tables lemma_tables cert_tables refused',
+    ),
 }
 HEAD = '''# Crates
 
@@ -54,7 +67,9 @@ def listed():
     for line in LIST.read_text(encoding='utf-8').splitlines():
         if line.strip():
             name, _, deps = line.partition(':')
-            crates[name.split()[0]] = [word for word in deps.split() if (ROOT / 'crates' / word).is_dir()]
+            crates[name.split()[0]] = [
+                word for word in deps.split() if (ROOT / 'crates' / word).is_dir()
+            ]
     return crates
 
 
@@ -65,7 +80,11 @@ def told(crate):
         if file.exists():
             found = re.match(r'(?://!.*\n)+', file.read_text(encoding='utf-8'))
             lines = [line[3:].strip() for line in found[0].splitlines()] if found else []
-            return ' '.join(lines[:lines.index('')] if '' in lines else lines).split('. ')[0].rstrip('.')
+            return (
+                ' '.join(lines[: lines.index('')] if '' in lines else lines)
+                .split('. ')[0]
+                .rstrip('.')
+            )
     return ''
 
 
@@ -73,7 +92,9 @@ def page(crates, rest):
     """The text of crates/README.md, whose list is followed by the rest."""
     text = HEAD
     for room, (what, _) in ROOMS.items():
-        items = ''.join(f'- [`{name}`]({name}): {told(name)}\n' for name in crates if room_of(name) == room)
+        items = ''.join(
+            f'- [`{name}`]({name}): {told(name)}\n' for name in crates if room_of(name) == room
+        )
         text += f'\n## {room}: {what}\n\n{items}' if items else ''
     return text + FOOT + rest
 

@@ -34,9 +34,19 @@ PROVERS_NAMES = {'Answers.antt', 'Invariants.antt', 'Proof.antt'}
 @functools.cache
 def sources(part, ending):
     """The files of the product crates below a part of each, with their texts."""
-    crates = (crate for crate in sorted((ROOT / 'crates').iterdir()) if crate.is_dir() and crate.name not in OTHERS)
-    files = ((crate, file) for crate in crates for file in sorted((crate / part).rglob('*' + ending)))
-    return [(file, file.read_text(encoding='utf-8')) for crate, file in files if 'out' not in file.relative_to(crate).parts]
+    crates = (
+        crate
+        for crate in sorted((ROOT / 'crates').iterdir())
+        if crate.is_dir() and crate.name not in OTHERS
+    )
+    files = (
+        (crate, file) for crate in crates for file in sorted((crate / part).rglob('*' + ending))
+    )
+    return [
+        (file, file.read_text(encoding='utf-8'))
+        for crate, file in files
+        if 'out' not in file.relative_to(crate).parts
+    ]
 
 
 def place(file, line):
@@ -152,16 +162,22 @@ def lone_definitions():
     """Definitions and lemmas whose name stands nowhere else, with whether each is a row worked out at fixed values, which tests
     what it names."""
     texts = (text for _, text in itertools.chain(proof_sources(), sources('src', '.rt')))
-    words = collections.Counter(word for text in texts for word in re.findall(r"[^\s(){},.;:λ]+", text))
+    words = collections.Counter(
+        word for text in texts for word in re.findall(r"[^\s(){},.;:λ]+", text)
+    )
     for file, text in proof_sources():
         if file.name in PROVERS_NAMES:
             continue
-        for found in re.finditer(r'(?m)^(?:(?:abbrev|unfoldable|opaque|pub)\s+)*([A-Za-z_][\w-]*)\s*:\s', text):
+        for found in re.finditer(
+            r'(?m)^(?:(?:abbrev|unfoldable|opaque|pub)\s+)*([A-Za-z_][\w-]*)\s*:\s', text
+        ):
             name = found[1]
             if words[name] > text.count(f'\n{name}') + 2:
                 continue  # some of its places begin no line
             heads_of = len(re.findall(rf'(?m)^{re.escape(name)}\b', text))
-            if words[name] <= max(heads_of, 1) + (1 if re.search(rf'(?m)^(?:\w+\s+)+{re.escape(name)}\s*:', text) else 0):
+            if words[name] <= max(heads_of, 1) + (
+                1 if re.search(rf'(?m)^(?:\w+\s+)+{re.escape(name)}\s*:', text) else 0
+            ):
                 worked = bool(re.search(rf'(?m)^{re.escape(name)} = refl$', text))
                 yield f'{place(file, text.count(chr(10), 0, found.start()) + 1)} {name}', worked
 
@@ -183,7 +199,7 @@ def shared_places(files, form):
         plain = (re.sub(r'(//|--).*', '', line).strip() for line in text.split('\n'))
         lines = [form(line) for line in plain if re.search(r'\w', line)]
         for at in range(len(lines) - RUN + 1):
-            runs[tuple(lines[at:at + RUN])].append(file.relative_to(ROOT).as_posix())
+            runs[tuple(lines[at : at + RUN])].append(file.relative_to(ROOT).as_posix())
     found = collections.Counter()
     for run, places in runs.items():
         if 1 < len(places) <= FEW and sum(len(line) > LONG for line in run) >= RUN // 2:
@@ -205,8 +221,12 @@ def proof_sources():
 def tracked(*patterns):
     """The lines of the files that git tracks below some patterns, in which tests and what was copied do not count."""
     for name in listed(*patterns):
-        if not re.match(r'(tests|python/tests|page/test|dist)/|.*(^|/)(test|conftest)[^/]*$|.*_test\.mjs$', name):
-            yield from itertools.repeat(name, len((ROOT / name).read_text(encoding='utf-8').splitlines()))
+        if not re.match(
+            r'(tests|python/tests|page/test|dist)/|.*(^|/)(test|conftest)[^/]*$|.*_test\.mjs$', name
+        ):
+            yield from itertools.repeat(
+                name, len((ROOT / name).read_text(encoding='utf-8').splitlines())
+            )
 
 
 def bash_lines():
@@ -227,12 +247,28 @@ COUNTS = (
     ('lists of lists of numbers in specs without a sort', lambda: unsorted_grids('specs'), 125),
     ('lists of lists of numbers in proofs without a sort', lambda: unsorted_grids('proofs'), 441),
     # the second is `nonobench_assess`, for hosts in C: two of its texts may be left out
-    ('functions above 6 parameters', lambda: functions_with(lambda found: len(found) > MOST_PARAMETERS), 2),
+    (
+        'functions above 6 parameters',
+        lambda: functions_with(lambda found: len(found) > MOST_PARAMETERS),
+        2,
+    ),
     # a meter, or a number of evaluations, splits or parts
-    ('functions that carry a counter by &mut', lambda: functions_with(lambda found: any(map(COUNTER.fullmatch, found))), 13),
+    (
+        'functions that carry a counter by &mut',
+        lambda: functions_with(lambda found: any(map(COUNTER.fullmatch, found))),
+        13,
+    ),
     # the text of a flaw stands in `assess_text` and, below the search, in `check_host`; conversions of errors of a check have one shape
-    ('pairs of source files that share six lines of one shape', lambda: shared_places(sources('src', '.rt'), shape), 130),
-    ('pairs of specs or proofs that share six lines', lambda: shared_places(proof_sources(), str), 24),
+    (
+        'pairs of source files that share six lines of one shape',
+        lambda: shared_places(sources('src', '.rt'), shape),
+        130,
+    ),
+    (
+        'pairs of specs or proofs that share six lines',
+        lambda: shared_places(proof_sources(), str),
+        24,
+    ),
     ('source files without a first line', headless_files, 0),
     ('definitions and lemmas that nothing names', lambda: lone(False), 12),
     ('rows worked out beside a definition', lambda: lone(True), 7),
@@ -248,7 +284,11 @@ COUNTS = (
     # site bounds connections, and headers are read in bounded memory. Modules are made those of other systems, too. The page aims for
     # a grade, and a script measures how often that is reached. Outputs and names of an audit withstand more; its rows wait in little
     # memory, and the page lists its library at once.
-    ('lines of JavaScript and Python without tests', lambda: tracked('*.js', '*.mjs', '*.py'), 30800),
+    (
+        'lines of JavaScript and Python without tests',
+        lambda: tracked('*.js', '*.mjs', '*.py'),
+        30800,
+    ),
     # platforms/build makes library and program for other systems, and release their packages.
     ('lines of bash', bash_lines, 1310),
 )
@@ -259,7 +299,9 @@ def main():
     for what, count, most in COUNTS:
         found = list(count())
         above += len(found) > most
-        print(f'{len(found):7} {what}, of at most {most}{": too many" if len(found) > most else ""}')
+        print(
+            f'{len(found):7} {what}, of at most {most}{": too many" if len(found) > most else ""}'
+        )
         if '-v' in sys.argv[1:] and len(found) < 500:
             print(''.join(f'          {it}\n' for it in found), end='')
     print(f'house: {above} above their bounds')

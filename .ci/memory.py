@@ -21,18 +21,45 @@ MOST = 7
 GROWING = 'add|non_text_of|push|set|start|write_cert|write_ppm'
 # A file of crates/*/src, a line of it, and why that line makes the error although no pattern of it names one.
 OTHERS = [
-    ('command_line/src/words.rt', 'return Err(ProgramFault::Memory);', 'the error of the parser says that memory ran out'),
-    ('live_audit/src/bench.rt', 'return Err(AllocError);', 'the only error of `audit_anew` is that memory ran out'),
-    ('live_audit/src/bench.rt', 'return Err(EditFault::Memory);', 'the only error of `audit_again` is that memory ran out'),
-    ('picture/src/palette.rt', 'Err(AllocError)', 'the line before it is proved: the error says that memory ran out'),
-    ('web/src/desk.rt', 'let handle = self.given.checked_add(1).ok_or(ProgramFault::Memory)?;',
-     'all 4,294,967,295 handles were given: docs/DECISIONS.md tells it'),
-    ('web/src/desk.rt', 'Err(_) => return Err(ProgramFault::Memory),', 'the only error of a push is that memory ran out'),
+    (
+        'command_line/src/words.rt',
+        'return Err(ProgramFault::Memory);',
+        'the error of the parser says that memory ran out',
+    ),
+    (
+        'live_audit/src/bench.rt',
+        'return Err(AllocError);',
+        'the only error of `audit_anew` is that memory ran out',
+    ),
+    (
+        'live_audit/src/bench.rt',
+        'return Err(EditFault::Memory);',
+        'the only error of `audit_again` is that memory ran out',
+    ),
+    (
+        'picture/src/palette.rt',
+        'Err(AllocError)',
+        'the line before it is proved: the error says that memory ran out',
+    ),
+    (
+        'web/src/desk.rt',
+        'let handle = self.given.checked_add(1).ok_or(ProgramFault::Memory)?;',
+        'all 4,294,967,295 handles were given: docs/DECISIONS.md tells it',
+    ),
+    (
+        'web/src/desk.rt',
+        'Err(_) => return Err(ProgramFault::Memory),',
+        'the only error of a push is that memory ran out',
+    ),
 ]
 MADE = re.compile(r'\bAllocError\b|\b[A-Z]\w*::Memory\b')
 # What names the error as a type, or compares with it.
-NAMED = re.compile(r'matches!\([^()]*\)|<[^{};=]*\bAllocError\b[^{};=]*>|\w+: AllocError\b|== [A-Z]\w*::Memory\b')
-MAPPED = re.compile(rf'\b(?:{GROWING})\([^()]*\)\.map_err\(\|_\w*\| (?:AllocError|[A-Z]\w*::Memory)\)')
+NAMED = re.compile(
+    r'matches!\([^()]*\)|<[^{};=]*\bAllocError\b[^{};=]*>|\w+: AllocError\b|== [A-Z]\w*::Memory\b'
+)
+MAPPED = re.compile(
+    rf'\b(?:{GROWING})\([^()]*\)\.map_err\(\|_\w*\| (?:AllocError|[A-Z]\w*::Memory)\)'
+)
 PASSED = re.compile(r'\bAllocError\b|\bMemory\b|\bOutOfMemory\b')
 
 
@@ -78,7 +105,9 @@ def places():
                 kind = kind_of(line)
                 if kind:
                     at = file.relative_to(ROOT / 'crates').as_posix()
-                    yield at, number + 1, source.split('\n')[number].strip(), 'from' if number in inside else kind
+                    yield at, number + 1, source.split('\n')[
+                        number
+                    ].strip(), 'from' if number in inside else kind
 
 
 def main():
@@ -89,11 +118,16 @@ def main():
         counts[kind] = counts.get(kind, 0) + 1
         found.add((file, line) if kind == 'other' else None)
         if kind == 'other' and (file, line) not in allowed:
-            faults.append(f'crates/{file}:{number}: out of memory, though no growth was refused: {line}')
+            faults.append(
+                f'crates/{file}:{number}: out of memory, though no growth was refused: {line}'
+            )
     faults += [f'OTHERS: {file} has no line {line}' for file, line in sorted(allowed - found)]
     if len(OTHERS) > MOST:
         faults.append(f'OTHERS: {len(OTHERS)} places, and {MOST} are allowed')
-    print('\n'.join(faults) or f'out of memory is answered where a growth was refused, and in {len(OTHERS)} other places')
+    print(
+        '\n'.join(faults)
+        or f'out of memory is answered where a growth was refused, and in {len(OTHERS)} other places'
+    )
     if '-v' in sys.argv[1:]:
         print(', '.join(f'{kind}: {count}' for kind, count in sorted(counts.items())))
     return 1 if faults else 0

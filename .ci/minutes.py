@@ -27,7 +27,9 @@ def processes():
             seconds = (int(fields[11]) + int(fields[12])) / TICKS
         except (OSError, IndexError):  # it has ended
             continue
-        yield int(folder.name), int(fields[1]), fields[19], seconds, [word.decode(errors='replace') for word in words]
+        yield int(folder.name), int(fields[1]), fields[19], seconds, [
+            word.decode(errors='replace') for word in words
+        ]
 
 
 def kind_of(number, words):
@@ -71,7 +73,11 @@ def main():
         for number, _, start, seconds, words in running:
             kind = kind_of(number, words) if number in ours and words[0] else None
             if kind:
-                crate = words[words.index('--crate-name') + 1] if '--crate-name' in words[:-1] else 'others'
+                crate = (
+                    words[words.index('--crate-name') + 1]
+                    if '--crate-name' in words[:-1]
+                    else 'others'
+                )
                 seen[number, start] = kind, crate, seconds
         time.sleep(1)
     minutes = {}
@@ -80,7 +86,9 @@ def main():
             minutes.setdefault(row, dict.fromkeys(KINDS, 0))[kind] += seconds / 60
     file.write_text(''.join(f'{told}\n' for told in shares(minutes.pop('', {}))))
     dearest = sorted(minutes, key=lambda crate: -sum(minutes[crate].values()))
-    crates.write_text(''.join(f'{crate}: {", ".join(shares(minutes[crate]))}\n' for crate in dearest))
+    crates.write_text(
+        ''.join(f'{crate}: {", ".join(shares(minutes[crate]))}\n' for crate in dearest)
+    )
 
 
 if __name__ == '__main__':

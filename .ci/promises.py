@@ -13,7 +13,15 @@ ROOT = Path(__file__).resolve().parent.parent
 PAGE = ROOT / 'docs' / 'PROMISES.md'
 MARK = '<!-- From here on .ci/promises.py makes this page. -->'
 # The crates of tests, and those that have laws about calls of others alone.
-OTHERS = {'table_words', 'tables', 'search_tables', 'lemma_tables', 'cert_tables', 'refused', 'nonobench'}
+OTHERS = {
+    'table_words',
+    'tables',
+    'search_tables',
+    'lemma_tables',
+    'cert_tables',
+    'refused',
+    'nonobench',
+}
 HEAD = re.compile(r'^( *)pub (?:const )?(?:extern "C" )?fn (\w+)|^(    )fn (\w+)')
 BLOCK = re.compile(r'^(?:pub )?(impl|trait)\b(?:<.*?>)? *(?:.* for )?(\w+)')
 
@@ -22,7 +30,9 @@ def public_names(root):
     """What a root file makes public: names of items, and modules all of whose functions are."""
     names, modules = set(), set(re.findall(r'^pub mod (\w+);', root, re.M))
     for held in re.findall(r'^pub use [\w:]+::(?:{([^}]*)}|(\w+));', root, re.M):
-        names |= {name.strip().split(' as ')[0] for name in ''.join(held).split(',') if name.strip()}
+        names |= {
+            name.strip().split(' as ')[0] for name in ''.join(held).split(',') if name.strip()
+        }
     return names, modules
 
 
@@ -40,7 +50,7 @@ def comment_before(lines, at):
 def clauses_after(lines, at, indent):
     """The clauses of a function whose head begins at a line, with their continuations."""
     found, inside = [], False
-    for line in lines[at + 1:]:
+    for line in lines[at + 1 :]:
         if re.match(rf'{indent}(?:\{{|\}}|[^ )])', line) or not line.strip():
             break
         if re.match(r'\s*(?:requires|ensures)', line):
@@ -76,10 +86,19 @@ def calls_of(file, names, is_open):
         if not head:
             continue
         name, is_free = head[2] or head[4], line[0] != ' '
-        is_public = head[2] and (is_open or name in names) if is_free else owner and owner[0] in names and (head[2] or owner[1])
+        is_public = (
+            head[2] and (is_open or name in names)
+            if is_free
+            else owner and owner[0] in names and (head[2] or owner[1])
+        )
         if is_public:
             whole = name if is_free else f'{owner[0]}::{name}'
-            yield from item(whole, file, comment_before(lines, at), clauses_after(lines, at, head[1] or head[3] or ''))
+            yield from item(
+                whole,
+                file,
+                comment_before(lines, at),
+                clauses_after(lines, at, head[1] or head[3] or ''),
+            )
 
 
 def part_of(crate):
@@ -90,7 +109,9 @@ def part_of(crate):
     lines = [
         line
         for path in sorted(folder.rglob('*.rt'))
-        for line in calls_of(path.relative_to(ROOT).as_posix(), names, path.stem in modules or path.name == 'lib.rt')
+        for line in calls_of(
+            path.relative_to(ROOT).as_posix(), names, path.stem in modules or path.name == 'lib.rt'
+        )
     ]
     told = re.match(r'//! (.*(?:\n//! .*)*)', root)[1].replace('\n//! ', ' ')
     return [f'## `{crate}`', '', told, '', *lines] if lines else []
@@ -99,7 +120,11 @@ def part_of(crate):
 def page(text):
     """The page with the part of this script made anew."""
     front = text.split(MARK)[0].rstrip()
-    crates = [line.split(':')[0].split()[0] for line in (ROOT / 'crates.txt').read_text(encoding='utf-8').splitlines() if line.strip()]
+    crates = [
+        line.split(':')[0].split()[0]
+        for line in (ROOT / 'crates.txt').read_text(encoding='utf-8').splitlines()
+        if line.strip()
+    ]
     parts = [line for crate in crates if crate not in OTHERS for line in part_of(crate)]
     return '\n'.join([front, '', MARK, '', *parts]).rstrip() + '\n'
 

@@ -81,34 +81,73 @@ OF_CRATES = {os.path.join("crates", "README.md")}
 # Documents that a script makes of the sources, which says itself whether they are in order.
 MADE = {os.path.join("docs", "BASE.md"), os.path.join("docs", "PROMISES.md")}
 # The documents that people read, and how many words they may have. packages/dist-README.txt is what a release writes to dist/README.md.
-READ = ["README.md", "CONTRIBUTING.md", *(f"docs/{name}.md" for name in ("ARCHITECTURE", "COMPARISON", "FORMATS", "GLOSSARY", "RECIPES",
-                                                                        "THEOREMS", "TRUST", "TUTORIAL")),
-        "crates/README.md", "examples/README.md", "examples/site/README.md", "measure/README.md", "packages/dist-README.txt",
-        "packages/linux/README.md", "packages/npm/README.md", "page/README.md", "python/README.md"]
+READ = [
+    "README.md",
+    "CONTRIBUTING.md",
+    *(
+        f"docs/{name}.md"
+        for name in (
+            "ARCHITECTURE",
+            "COMPARISON",
+            "FORMATS",
+            "GLOSSARY",
+            "RECIPES",
+            "THEOREMS",
+            "TRUST",
+            "TUTORIAL",
+        )
+    ),
+    "crates/README.md",
+    "examples/README.md",
+    "examples/site/README.md",
+    "measure/README.md",
+    "packages/dist-README.txt",
+    "packages/linux/README.md",
+    "packages/npm/README.md",
+    "page/README.md",
+    "python/README.md",
+]
 # The others, each with the reason why it is not counted among them.
-LEFT_OUT = {"CHANGELOG.md": "what changed, looked up by version",
-            "docs/DECISIONS.md": "why something is as it is, looked up by maintainers; it has its own bound",
-            "docs/BASE.md": "looked up; .ci/base.py makes it of the definitions",
-            "docs/PROMISES.md": "looked up; .ci/promises.py makes it of the contracts",
-            "dist/README.md": "a release made it, of packages/dist-README.txt, which is counted"}
+LEFT_OUT = {
+    "CHANGELOG.md": "what changed, looked up by version",
+    "docs/DECISIONS.md": "why something is as it is, looked up by maintainers; it has its own bound",
+    "docs/BASE.md": "looked up; .ci/base.py makes it of the definitions",
+    "docs/PROMISES.md": "looked up; .ci/promises.py makes it of the contracts",
+    "dist/README.md": "a release made it, of packages/dist-README.txt, which is counted",
+}
 # A part of a document that a script makes, which no one writes or reads from top to bottom: lists and tables.
-MADE_PART = re.compile(r"<!-- (\.ci/\w+\.py) makes this part -->\n.*?<!-- \1 made this part -->\n", re.S)
+MADE_PART = re.compile(
+    r"<!-- (\.ci/\w+\.py) makes this part -->\n.*?<!-- \1 made this part -->\n", re.S
+)
 MOST_READ = 30000
 MOST = {"README.md": 900, "docs/DECISIONS.md": 2000}
 # How many words in a row are a repetition, and what may be said twice: the licence in each package, and the claims that README.md
 # takes from docs/THEOREMS.md.
 TWICE = 10
-ALLOWED = ["No licence has been chosen for nonobench yet. NOTICES has the licences of the third-party code in it.",
-           "A certificate may name any cells as givens, even all of them"]
+ALLOWED = [
+    "No licence has been chosen for nonobench yet. NOTICES has the licences of the third-party code in it.",
+    "A certificate may name any cells as givens, even all of them",
+]
 # Folders in which a path that is named must exist, and commands that build, prove or serve rather than answer.
 FOLDERS = "docs|crates|measure|tests|examples|page|web|python|\\.ci"
-BUILDS = ["bash .ci/run", "(cd crates/nonobench && rt try ", "(cd crates/nonobench && rt run ", "install -D ",
-          "export PATH=", "web/build", "python3 -m venv env", "env/bin/pip install dist/", "env/bin/nonobench-audit "]
+BUILDS = [
+    "bash .ci/run",
+    "(cd crates/nonobench && rt try ",
+    "(cd crates/nonobench && rt run ",
+    "install -D ",
+    "export PATH=",
+    "web/build",
+    "python3 -m venv env",
+    "env/bin/pip install dist/",
+    "env/bin/nonobench-audit ",
+]
 
 
 def documents():
     for folder, folders, names in os.walk(ROOT):
-        folders[:] = sorted(f for f in folders if f not in (".git", "env", "out", "must-fail", "target"))
+        folders[:] = sorted(
+            f for f in folders if f not in (".git", "env", "out", "must-fail", "target")
+        )
         for name in sorted(names):
             path = os.path.relpath(os.path.join(folder, name), ROOT)
             if name.endswith(".md") and path not in MADE:
@@ -206,20 +245,32 @@ def exists(path, folder):
         return True
     crate, edit = os.path.split(path)
     places = [path, os.path.join("crates", crate, "must-fail", edit + ".edit")]
-    return any(os.path.exists(os.path.join(base, place)) for base in (ROOT, folder) for place in places)
+    return any(
+        os.path.exists(os.path.join(base, place)) for base in (ROOT, folder) for place in places
+    )
 
 
 def citation_faults(lines):
     """The names that docs/THEOREMS.md cites, before the file that should have them, and that are not in that file."""
-    for number, sentence in ((n, one) for n, line in enumerate(lines, 1) for one in re.split(r"(?<=[.:]) (?=[A-Z])", line)):
+    for number, sentence in (
+        (n, one)
+        for n, line in enumerate(lines, 1)
+        for one in re.split(r"(?<=[.:]) (?=[A-Z])", line)
+    ):
         names, folder = [], ""
         for code in re.findall(r"`([^`]*)`", sentence):
             if not re.search(r"^crates/|\.rt$", code):
                 names.append(code.split("::")[-1])
                 continue
-            path = os.path.join(ROOT, code if code.startswith("crates/") else os.path.join(folder, code))
+            path = os.path.join(
+                ROOT, code if code.startswith("crates/") else os.path.join(folder, code)
+            )
             folder = os.path.dirname(path)
-            files = [path] if os.path.isfile(path) else [os.path.join(path, one) for one in sorted(os.listdir(path))]
+            files = (
+                [path]
+                if os.path.isfile(path)
+                else [os.path.join(path, one) for one in sorted(os.listdir(path))]
+            )
             text = "".join(map(text_of, files))
             for name in names:
                 if not re.search(rf"(?<!\w){re.escape(name)}(?!\w)", text):
@@ -227,7 +278,10 @@ def citation_faults(lines):
             names = []
 
 
-OF_DOCUMENT = {os.path.join("docs", "THEOREMS.md"): (citation_faults,), os.path.join("docs", "TRUST.md"): (length_faults,)}
+OF_DOCUMENT = {
+    os.path.join("docs", "THEOREMS.md"): (citation_faults,),
+    os.path.join("docs", "TRUST.md"): (length_faults,),
+}
 
 
 def faults_of(name):
@@ -254,7 +308,10 @@ def faults_of(name):
             if not exists(match, folder):
                 yield number, f"a path to nothing: {match}"
         for match in re.findall(r"(?<![\w./])[A-Z_]{3,}\.md\b", plain):
-            if not any(os.path.exists(os.path.join(base, match)) for base in (ROOT, folder, os.path.join(ROOT, "docs"))):
+            if not any(
+                os.path.exists(os.path.join(base, match))
+                for base in (ROOT, folder, os.path.join(ROOT, "docs"))
+            ):
                 yield number, f"a path to nothing: {match}"
     for check in OF_DOCUMENT.get(name, ()):
         yield from check(lines)
@@ -279,7 +336,7 @@ def runs_of(name):
         text = re.sub(r"`[^`]*`", " code ", re.sub(r"\]\([^)]*\)", "]", unit))
         words = re.findall(r"\w[\w'-]*", text.lower())
         for at in range(len(words) - TWICE + 1):
-            run = tuple(words[at:at + TWICE])
+            run = tuple(words[at : at + TWICE])
             if run.count("code") < TWICE // 2:
                 yield run, number
 
@@ -301,7 +358,10 @@ def size_faults(is_listed):
     for name in READ + list(LEFT_OUT):
         sizes[name] = len(MADE_PART.sub("", text_of(name)).split())
         if is_listed:
-            print(f"{sizes[name]:6,} {name}" + (f" (not counted: {LEFT_OUT[name]})" if name in LEFT_OUT else ""))
+            print(
+                f"{sizes[name]:6,} {name}"
+                + (f" (not counted: {LEFT_OUT[name]})" if name in LEFT_OUT else "")
+            )
         if sizes[name] > MOST.get(name, sizes[name]):
             yield f"{name} has {sizes[name]:,} words, of at most {MOST[name]:,}"
     read = sum(sizes[name] for name in READ)
@@ -329,7 +389,11 @@ def kit_fault():
 def main():
     words = sys.argv[1:]
     named = [w for w in words if not w.startswith("--")]
-    told = [f"{name}:{number}: {fault}" for name in named or documents() for number, fault in sorted(faults_of(name))]
+    told = [
+        f"{name}:{number}: {fault}"
+        for name in named or documents()
+        for number, fault in sorted(faults_of(name))
+    ]
     if not named:
         mean = mean_sentence("README.md")
         print(f"prose: README has {mean:.1f} words a sentence")

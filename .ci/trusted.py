@@ -47,10 +47,15 @@ def reached(lines):
         if told:
             crate, _, name = told[1].partition('::')
             found.setdefault(crate, []).append(f'`{name.split("::")[-1]}`')
-    for crate, names, more in re.findall(r'^axioms (\w+): ([\w:, ]*?)(, \.\.\. )?\((?:\d+) of the', '\n'.join(lines), re.M):
+    for crate, names, more in re.findall(
+        r'^axioms (\w+): ([\w:, ]*?)(, \.\.\. )?\((?:\d+) of the', '\n'.join(lines), re.M
+    ):
         named = [f'`{name.split("::")[-1].strip()}`' for name in names.split(',')]
         found.setdefault(crate, [*named, 'and others'] if more else named)
-    return ' '.join(f'In C, of `{crate}`: {", ".join(names)}.' for crate, names in found.items()) or 'Nothing in C.'
+    return (
+        ' '.join(f'In C, of `{crate}`: {", ".join(names)}.' for crate, names in found.items())
+        or 'Nothing in C.'
+    )
 
 
 def item(crate, lines):
@@ -77,9 +82,15 @@ def main(words):
     kept = re.match(r'(?:- .*\n)*', rest)[0]
     if '--write' in words:
         items = {re.match(r'- `(\w+)`', line)[1]: line for line in kept.splitlines(keepends=True)}
-        items.update({crate: item(crate, found[crate]) for crate in SHIPPED if last_words(found.get(crate, []))})
+        items.update(
+            {
+                crate: item(crate, found[crate])
+                for crate in SHIPPED
+                if last_words(found.get(crate, []))
+            }
+        )
         made = ''.join(items[crate] for crate in SHIPPED if crate in items)
-        PAGE.write_text(before + START + made + rest[len(kept):], encoding='utf-8')
+        PAGE.write_text(before + START + made + rest[len(kept) :], encoding='utf-8')
         return 0
     told = list(faults(found, kept))
     for fault in told:

@@ -22,9 +22,14 @@ class RustType:
 
     def follow(self, model):
         """Takes the value's type and the view from an `impl Model`."""
-        found = {name: re.search(rf'ghost {name} = {{(.*?)}};\n', model, re.S) for name in ('Value', 'view')}
+        found = {
+            name: re.search(rf'ghost {name} = {{(.*?)}};\n', model, re.S)
+            for name in ('Value', 'view')
+        }
         if found['Value'] and found['view']:
-            self.value, self.view = (re.sub(r'\s+', ' ', found[name][1]).strip() for name in ('Value', 'view'))
+            self.value, self.view = (
+                re.sub(r'\s+', ' ', found[name][1]).strip() for name in ('Value', 'view')
+            )
 
 
 class RustTypes:
@@ -44,7 +49,9 @@ class RustTypes:
         """The type of this name in a file: one of its crate, or one of the crate from which the file imports it."""
         crate = path.relative_to(self.crates).parts[0]
         brought = re.search(rf'^use (\w+)(?:::\w+)*::(?:\{{[^;]*\b)?{name}\b', text, re.M)
-        return self.types.get((crate, name)) or self.types.get((brought[1] if brought else crate, name))
+        return self.types.get((crate, name)) or self.types.get(
+            (brought[1] if brought else crate, name)
+        )
 
     def named(self, words, path, text):
         """The types that a text of types names, as `Vec<Entry>` does."""
@@ -79,11 +86,17 @@ def views_of(rust, kinds, equation):
         seen.add((kind, projection))
         if kind.view is None:
             read = kind.fields if projection not in kind.fields else [projection]
-            waiting += [(one, None) for field in read for one in rust.named(kind.fields[field], kind.path, kind.text)]
+            waiting += [
+                (one, None)
+                for field in read
+                for one in rust.named(kind.fields[field], kind.path, kind.text)
+            ]
             continue
         yield kind, f'{kind.value} {kind.view}'
         name, view = re.match(r'λ (\w+)\. (.*)', kind.view).groups()
-        for path in re.findall(rf'\b{name}((?:\.\w+)+)', seen_part(view, projection, lambda head: equation(kind, head))):
+        for path in re.findall(
+            rf'\b{name}((?:\.\w+)+)', seen_part(view, projection, lambda head: equation(kind, head))
+        ):
             field, _, rest = path[1:].partition('.')
             for one in rust.named(kind.fields.get(field, ''), kind.path, kind.text):
                 waiting.append((one, rest.partition('.')[0] or None))
@@ -91,10 +104,18 @@ def views_of(rust, kinds, equation):
 
 def values_of(rust, path, text, function):
     """The types of a function's values: of self, of each parameter and of the result, by name."""
-    found = re.search(rf'^( *)(?:pub(?:\(\w+\))? )?(?:extern "C" )?fn {function}(?:<[^()]*>)?\((.*?)^ *(?:requires|ensures)', text, re.M | re.S)
+    found = re.search(
+        rf'^( *)(?:pub(?:\(\w+\))? )?(?:extern "C" )?fn {function}(?:<[^()]*>)?\((.*?)^ *(?:requires|ensures)',
+        text,
+        re.M | re.S,
+    )
     values = dict(re.findall(r'(\w+): ([^\n]*?),?(?=\n|\)|, \w+:)', found[2]))
     values['result'] = found[2].rpartition('->')[2] if '->' in found[2] else ''
-    heads = re.findall(r'^impl[^\n]*?(\w+)(?:<[^\n]*>)? \{$', text[:found.start()], re.M) if found[1] else []
+    heads = (
+        re.findall(r'^impl[^\n]*?(\w+)(?:<[^\n]*>)? \{$', text[: found.start()], re.M)
+        if found[1]
+        else []
+    )
     values['self'] = heads[-1] if heads else ''
     return {name: rust.named(words, path, text) for name, words in values.items()}
 
@@ -102,6 +123,10 @@ def values_of(rust, path, text, function):
 def named_in(clause, values):
     """The types of the values that a clause names, each with the field of it that is named, if one is."""
     for name, rest in re.findall(r'(?<![\w.])(\w+)((?:\.\w+)*)', clause):
-        fields = [field for field in rest.split('.') if field and field not in ('old', 'new', 'now', 'entry', 'exit')]
+        fields = [
+            field
+            for field in rest.split('.')
+            if field and field not in ('old', 'new', 'now', 'entry', 'exit')
+        ]
         for kind in values.get(name, ()):
             yield kind, fields[0] if fields else None

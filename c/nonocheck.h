@@ -1,11 +1,15 @@
-/* Checks certificates of nonograms in a program of your own: over libnonocheck, which is proved, and has no search in it.
+/* Checks certificates of nonograms in a program of your own: over libnonocheck, which is proved,
+ * and has no search in it.
  *
- * Link with libnonocheck.a or libnonocheck.so (c/build). Each call is proved, from the bytes that it is passed to its status and text:
- * docs/PROMISES.md has the clauses. An accepted certificate proves that no other picture of that size has the clues and the colours in
- * its givens. Nothing checks that the caller meets its obligations:
- *   - a pointer leads to as much as the length that goes with it says, and is not null, even with the length 0;
+ * Link with libnonocheck.a or libnonocheck.so (c/build). Each call is proved, from the bytes that
+ * it is passed to its status and text: docs/PROMISES.md has the clauses. An accepted certificate
+ * proves that no other picture of that size has the clues and the colours in its givens. Nothing
+ * checks that the caller meets its obligations:
+ *   - a pointer leads to as much as the length that goes with it says, and is not null, even with
+ * the length 0;
  *   - what a call writes to does not overlap anything else that it is passed.
- * The library keeps nothing between calls, so threads may call it at once. It opens no file and prints nothing.
+ * The library keeps nothing between calls, so threads may call it at once. It opens no file and
+ * prints nothing.
  */
 #ifndef NONOCHECK_H
 #define NONOCHECK_H
@@ -29,38 +33,68 @@ extern "C" {
 
 /* What a call answers. */
 enum {
-    NONOCHECK_DONE = 0,    /* the certificate is accepted */
-    NONOCHECK_REFUSED = 1, /* picture, givens or certificate is refused; the text is what the program says after `nonobench: ` */
-    NONOCHECK_MEMORY = 4,  /* out of memory; there is no text */
-    NONOCHECK_OPTIONS = 6  /* the background has neither no samples nor three; there is no text */
+  NONOCHECK_DONE = 0,    /* the certificate is accepted */
+  NONOCHECK_REFUSED = 1, /* picture, givens or certificate is refused; the text is what the program
+                            says after `nonobench: ` */
+  NONOCHECK_MEMORY = 4,  /* out of memory; there is no text */
+  NONOCHECK_OPTIONS = 6  /* the background has neither no samples nor three; there is no text */
 };
 
-/* Each call puts as much of its text as there is room for at `out`, and zeros behind it: with NONOCHECK_ROOM, a text with a NUL. */
+/* Each call puts as much of its text as there is room for at `out`, and zeros behind it: with
+ * NONOCHECK_ROOM, a text with a NUL. */
 
 /* The version of the library, as `nonobench --version` prints it after the name. */
 void nonocheck_version(uint8_t *out, size_t room);
 
-/* Checks a certificate of a P3 picture, in any of its forms. It may have any givens, and these may be all cells: the text says how many.
- * `background` is three samples, red, green and blue as the picture has them, or none (samples 0) for white. */
-uint32_t nonocheck_check(const uint8_t *picture, size_t picture_size, const uint8_t *certificate, size_t certificate_size,
-                         const uint16_t *background, size_t samples, uint8_t *out, size_t room);
+/* Checks a certificate of a P3 picture, in any of its forms. It may have any givens, and these may
+ * be all cells: the text says how many. `background` is three samples, red, green and blue as the
+ * picture has them, or none (samples 0) for white. */
+uint32_t nonocheck_check(
+    const uint8_t *picture,
+    size_t picture_size,
+    const uint8_t *certificate,
+    size_t certificate_size,
+    const uint16_t *background,
+    size_t samples,
+    uint8_t *out,
+    size_t room
+);
 
-/* The same with a file of the givens that are published, a line `given R C` each, which may be empty. One that is accepted proves that
- * no other picture has the clues and the colours in the published cells. If it names another cell, the text is `certificate
- * UnpublishedGiven at line N`; if the file of givens is refused, `givens NAME at line N`. */
-uint32_t nonocheck_check_published(const uint8_t *picture, size_t picture_size, const uint8_t *certificate, size_t certificate_size,
-                                   const uint8_t *givens, size_t givens_size, const uint16_t *background, size_t samples,
-                                   uint8_t *out, size_t room);
+/* The same with a file of the givens that are published, a line `given R C` each, which may be
+ * empty. One that is accepted proves that no other picture has the clues and the colours in the
+ * published cells. If it names another cell, the text is `certificate UnpublishedGiven at line N`;
+ * if the file of givens is refused, `givens NAME at line N`. */
+uint32_t nonocheck_check_published(
+    const uint8_t *picture,
+    size_t picture_size,
+    const uint8_t *certificate,
+    size_t certificate_size,
+    const uint8_t *givens,
+    size_t givens_size,
+    const uint16_t *background,
+    size_t samples,
+    uint8_t *out,
+    size_t room
+);
 
 /* How much room all pairs of colours need. */
 #define NONOCHECK_PAIRS ((size_t)240)
 
-/* Finds the flaws of a P3 picture that show without a search: whether it is blank, whether a background that is passed is one that no
- * cell has, and the pairs of colours that look alike, among those that cells have and the background. A pair is two bytes, the numbers
- * of its colours, 0 for the background; zeros come behind the last. Where the picture is REFUSED there are none, and the text of
- * nonocheck_check says why. */
-uint32_t nonocheck_flaws(const uint8_t *picture, size_t picture_size, const uint16_t *background, size_t samples, bool *is_blank,
-                         bool *lacks_background, uint8_t *alike, size_t room);
+/* Finds the flaws of a P3 picture that show without a search: whether it is blank, whether a
+ * background that is passed is one that no cell has, and the pairs of colours that look alike,
+ * among those that cells have and the background. A pair is two bytes, the numbers of its colours,
+ * 0 for the background; zeros come behind the last. Where the picture is REFUSED there are none,
+ * and the text of nonocheck_check says why. */
+uint32_t nonocheck_flaws(
+    const uint8_t *picture,
+    size_t picture_size,
+    const uint16_t *background,
+    size_t samples,
+    bool *is_blank,
+    bool *lacks_background,
+    uint8_t *alike,
+    size_t room
+);
 
 #ifdef __cplusplus
 }

@@ -1,5 +1,5 @@
-/* One question each, over the calls of the proved library: c/build puts these functions into libnonobench, and nonobench.h tells
- * what they do. They are C and tested, not proved. */
+/* One question each, over the calls of the proved library: c/build puts these functions into
+ * libnonobench, and nonobench.h tells what they do. They are C and tested, not proved. */
 #include "nonobench.h"
 
 #include <inttypes.h>
@@ -11,125 +11,138 @@
 
 /* Bytes as the library takes them: it takes no null. */
 static const uint8_t *bytes_of(const void *bytes) {
-    return bytes ? (const uint8_t *)bytes : (const uint8_t *)"";
+  return bytes ? (const uint8_t *)bytes : (const uint8_t *)"";
 }
 
-static size_t length_of(const char *background) {
-    return background ? strlen(background) : 0;
-}
+static size_t length_of(const char *background) { return background ? strlen(background) : 0; }
 
 /* Puts a text of our own. */
 static void put(nonobench_text *text, const char *words) {
-    if (!text) return;
-    text->size = strlen(words);
-    if (!text->at || text->room == 0) return;
-    size_t front = text->size < text->room ? text->size : text->room - 1;
-    memcpy(text->at, words, front);
-    text->at[front] = 0;
+  if (!text) return;
+  text->size = strlen(words);
+  if (!text->at || text->room == 0) return;
+  size_t front = text->size < text->room ? text->size : text->room - 1;
+  memcpy(text->at, words, front);
+  text->at[front] = 0;
 }
 
 /* Takes the text of the last call. */
 static void take(nonobench_desk **desk, nonobench_text *text) {
-    uint8_t none;
-    if (!text) return;
-    if (!text->at || text->room == 0) {
-        text->size = nonobench_take(desk, &none, 0);
-        return;
-    }
-    text->size = nonobench_take(desk, (uint8_t *)text->at, text->room - 1);
-    text->at[text->size < text->room ? text->size : text->room - 1] = 0;
+  uint8_t none;
+  if (!text) return;
+  if (!text->at || text->room == 0) {
+    text->size = nonobench_take(desk, &none, 0);
+    return;
+  }
+  text->size = nonobench_take(desk, (uint8_t *)text->at, text->room - 1);
+  text->at[text->size < text->room ? text->size : text->room - 1] = 0;
 }
 
 /* Whether bytes can be handed on: the status and the text where they cannot. */
 static uint32_t look(const void *bytes, size_t size, nonobench_text *text) {
-    if (!bytes && size > 0) {
-        put(text, "a null beside a length");
-        return NONOBENCH_OPTIONS;
-    }
-    if (size > NONOBENCH_MOST_BYTES) {
-        put(text, "input too long");
-        return NONOBENCH_REFUSED;
-    }
-    return NONOBENCH_DONE;
+  if (!bytes && size > 0) {
+    put(text, "a null beside a length");
+    return NONOBENCH_OPTIONS;
+  }
+  if (size > NONOBENCH_MOST_BYTES) {
+    put(text, "input too long");
+    return NONOBENCH_REFUSED;
+  }
+  return NONOBENCH_DONE;
 }
 
 /* Puts what is said for a status, and answers it. */
 static uint32_t tell(nonobench_desk **desk, uint32_t status, nonobench_text *text) {
-    if (status == NONOBENCH_MEMORY) {
-        put(text, "memory");
-    } else if (status == NONOBENCH_OPTIONS) {
-        put(text, "background must be R,G,B");
-    } else {
-        take(desk, text);
-    }
-    return status;
+  if (status == NONOBENCH_MEMORY) {
+    put(text, "memory");
+  } else if (status == NONOBENCH_OPTIONS) {
+    put(text, "background must be R,G,B");
+  } else {
+    take(desk, text);
+  }
+  return status;
 }
 
 /* Starts a desk: DONE, or MEMORY with its text. */
 static uint32_t start(nonobench_desk **desk, nonobench_text *text) {
-    if (nonobench_start(desk) == NONOBENCH_DONE) return NONOBENCH_DONE;
-    put(text, "memory");
-    return NONOBENCH_MEMORY;
+  if (nonobench_start(desk) == NONOBENCH_DONE) return NONOBENCH_DONE;
+  put(text, "memory");
+  return NONOBENCH_MEMORY;
 }
 
-/* Opens a bench on a picture and a desk of its own. Where that is refused, the desk is ended and the text put. */
-static uint32_t open_one(nonobench_desk **desk, uint32_t *handle, const void *picture, size_t size, const char *background,
-                         nonobench_text *text) {
-    uint32_t status = look(picture, size, text);
-    if (status == NONOBENCH_DONE) status = start(desk, text);
-    if (status != NONOBENCH_DONE) return status;
-    status = nonobench_open(desk, bytes_of(picture), size, false, bytes_of(background), length_of(background), 1, handle);
-    if (status != NONOBENCH_DONE) {
-        tell(desk, status, text);
-        nonobench_end(*desk);
-    }
-    return status;
+/* Opens a bench on a picture and a desk of its own. Where that is refused, the desk is ended and
+ * the text put. */
+static uint32_t open_one(
+    nonobench_desk **desk,
+    uint32_t *handle,
+    const void *picture,
+    size_t size,
+    const char *background,
+    nonobench_text *text
+) {
+  uint32_t status = look(picture, size, text);
+  if (status == NONOBENCH_DONE) status = start(desk, text);
+  if (status != NONOBENCH_DONE) return status;
+  status = nonobench_open(
+      desk, bytes_of(picture), size, false, bytes_of(background), length_of(background), 1, handle
+  );
+  if (status != NONOBENCH_DONE) {
+    tell(desk, status, text);
+    nonobench_end(*desk);
+  }
+  return status;
 }
 
-/* Says one line, and takes the answer. Memory that is refused within a session is told as MEMORY. */
-static uint32_t ask(nonobench_desk **desk, uint32_t handle, const char *line, nonobench_text *text) {
-    char front[9] = "";
-    nonobench_text own = {front, sizeof front, 0};
-    uint32_t status = nonobench_say(desk, handle, (const uint8_t *)line, strlen(line));
-    if (status == NONOBENCH_DONE) {
-        take(desk, &own);
-        if (strcmp(front, "refused:") == 0) status = NONOBENCH_MEMORY;
-    }
-    return tell(desk, status, text);
+/* Says one line, and takes the answer. Memory that is refused within a session is told as MEMORY.
+ */
+static uint32_t ask(
+    nonobench_desk **desk, uint32_t handle, const char *line, nonobench_text *text
+) {
+  char front[9] = "";
+  nonobench_text own = {front, sizeof front, 0};
+  uint32_t status = nonobench_say(desk, handle, (const uint8_t *)line, strlen(line));
+  if (status == NONOBENCH_DONE) {
+    take(desk, &own);
+    if (strcmp(front, "refused:") == 0) status = NONOBENCH_MEMORY;
+  }
+  return tell(desk, status, text);
 }
 
 /* The number at a place, which moves behind its digits. */
 static uint32_t number_at(const uint8_t **at, const uint8_t *end) {
-    uint32_t number = 0;
-    while (*at < end && **at >= '0' && **at <= '9') number = number * 10 + (uint32_t)(*(*at)++ - '0');
-    return number;
+  uint32_t number = 0;
+  while (*at < end && **at >= '0' && **at <= '9') number = number * 10 + (uint32_t)(*(*at)++ - '0');
+  return number;
 }
 
 /* The place behind a line. */
 static const uint8_t *behind_line(const uint8_t *at, const uint8_t *end) {
-    while (at < end && *at++ != '\n') continue;
-    return at;
+  while (at < end && *at++ != '\n') continue;
+  return at;
 }
 
 /* Reads the given of a line, and moves behind it; false where the line is none. */
 static bool next_given(const uint8_t **at, const uint8_t *end, nonobench_place *place) {
-    if ((size_t)(end - *at) <= 6 || memcmp(*at, "given ", 6) != 0) return false;
-    *at += 6;
-    place->row = number_at(at, end);
-    if (*at < end && **at == ' ') *at += 1;
-    place->column = number_at(at, end);
-    *at = behind_line(*at, end);
-    return true;
+  if ((size_t)(end - *at) <= 6 || memcmp(*at, "given ", 6) != 0) return false;
+  *at += 6;
+  place->row = number_at(at, end);
+  if (*at < end && **at == ' ') *at += 1;
+  place->column = number_at(at, end);
+  *at = behind_line(*at, end);
+  return true;
 }
 
-size_t nonobench_givens(const void *certificate, size_t size, nonobench_place *places, size_t room) {
-    const uint8_t *end = bytes_of(certificate) + (certificate ? size : 0), *at = behind_line(bytes_of(certificate), end);
-    nonobench_place place;
-    size_t count = 0;
-    for (; next_given(&at, end, &place); count++) {
-        if (count < room) places[count] = place;
-    }
-    return count;
+size_t nonobench_givens(
+    const void *certificate, size_t size, nonobench_place *places, size_t room
+) {
+  const uint8_t *end = bytes_of(certificate) + (certificate ? size : 0),
+                *at = behind_line(bytes_of(certificate), end);
+  nonobench_place place;
+  size_t count = 0;
+  for (; next_given(&at, end, &place); count++) {
+    if (count < room) places[count] = place;
+  }
+  return count;
 }
 
 /* The bytes of a line `given R C` at the most. */
@@ -137,313 +150,425 @@ size_t nonobench_givens(const void *certificate, size_t size, nonobench_place *p
 
 /* Room of our own: DONE, or MEMORY with its text. */
 static uint32_t reserve(void **room, size_t size, nonobench_text *text) {
-    *room = malloc(size);
-    if (*room) return NONOBENCH_DONE;
-    put(text, "memory");
+  *room = malloc(size);
+  if (*room) return NONOBENCH_DONE;
+  put(text, "memory");
+  return NONOBENCH_MEMORY;
+}
+
+/* Puts the published cells into room of their own, as a file of givens has them: a line each, in
+ * their order. */
+static uint32_t write_givens(
+    const nonobench_options *options, char **givens, size_t *size, nonobench_text *text
+) {
+  if (!options->published && options->published_count > 0) {
+    put(text, "a null beside a length");
+    return NONOBENCH_OPTIONS;
+  }
+  if (options->published_count > NONOBENCH_MOST_BYTES / MOST_GIVEN) {
+    put(text, "input too long");
+    return NONOBENCH_REFUSED;
+  }
+  if (reserve((void **)givens, options->published_count * MOST_GIVEN + 1, text) != NONOBENCH_DONE)
     return NONOBENCH_MEMORY;
+  for (size_t at = 0; at < options->published_count; at++) {
+    nonobench_place place = options->published[at];
+    *size += (size_t
+    )sprintf(*givens + *size, "given %" PRIu32 " %" PRIu32 "\n", place.row, place.column);
+  }
+  return NONOBENCH_DONE;
 }
 
-/* Puts the published cells into room of their own, as a file of givens has them: a line each, in their order. */
-static uint32_t write_givens(const nonobench_options *options, char **givens, size_t *size, nonobench_text *text) {
-    if (!options->published && options->published_count > 0) {
-        put(text, "a null beside a length");
-        return NONOBENCH_OPTIONS;
-    }
-    if (options->published_count > NONOBENCH_MOST_BYTES / MOST_GIVEN) {
-        put(text, "input too long");
-        return NONOBENCH_REFUSED;
-    }
-    if (reserve((void **)givens, options->published_count * MOST_GIVEN + 1, text) != NONOBENCH_DONE) return NONOBENCH_MEMORY;
-    for (size_t at = 0; at < options->published_count; at++) {
-        nonobench_place place = options->published[at];
-        *size += (size_t)sprintf(*givens + *size, "given %" PRIu32 " %" PRIu32 "\n", place.row, place.column);
-    }
-    return NONOBENCH_DONE;
-}
-
-uint32_t nonobench_check_pair(const void *picture, size_t picture_size, const void *certificate, size_t certificate_size,
-                              const nonobench_options *options, nonobench_text *text) {
-    static const nonobench_options NONE = {NULL, NULL, 0, false};
-    const nonobench_options *asked = options ? options : &NONE;
-    const uint8_t *file = bytes_of(picture), *cert = bytes_of(certificate), *word = bytes_of(asked->background);
-    size_t word_size = length_of(asked->background), size = 0;
-    char *givens = NULL;
-    nonobench_desk *desk;
-    uint32_t status = look(picture, picture_size, text);
-    if (status == NONOBENCH_DONE) status = look(certificate, certificate_size, text);
-    if (status == NONOBENCH_DONE) status = write_givens(asked, &givens, &size, text);
-    if (status == NONOBENCH_DONE) status = start(&desk, text);
-    if (status == NONOBENCH_DONE) {
-        status = asked->any_given ? nonobench_check(&desk, file, picture_size, cert, certificate_size, word, word_size)
-                                  : nonobench_check_published(&desk, file, picture_size, cert, certificate_size,
-                                                              bytes_of(givens), size, word, word_size);
-        tell(&desk, status, text);
-        nonobench_end(desk);
-    }
-    free(givens);
-    return status;
-}
-
-uint32_t nonobench_verify_pair(const void *picture, size_t picture_size, const void *certificate, size_t certificate_size,
-                               const nonobench_options *options, nonobench_text *text) {
-    return nonobench_check_pair(picture, picture_size, certificate, certificate_size, options, text);
-}
-
-uint32_t nonobench_clues(const void *picture, size_t size, const char *background, nonobench_text *text) {
-    nonobench_desk *desk;
-    uint32_t handle, status = open_one(&desk, &handle, picture, size, background, text);
-    if (status != NONOBENCH_DONE) return status;
-    status = ask(&desk, handle, "clues\n", text);
+uint32_t nonobench_check_pair(
+    const void *picture,
+    size_t picture_size,
+    const void *certificate,
+    size_t certificate_size,
+    const nonobench_options *options,
+    nonobench_text *text
+) {
+  static const nonobench_options NONE = {NULL, NULL, 0, false};
+  const nonobench_options *asked = options ? options : &NONE;
+  const uint8_t *file = bytes_of(picture), *cert = bytes_of(certificate),
+                *word = bytes_of(asked->background);
+  size_t word_size = length_of(asked->background), size = 0;
+  char *givens = NULL;
+  nonobench_desk *desk;
+  uint32_t status = look(picture, picture_size, text);
+  if (status == NONOBENCH_DONE) status = look(certificate, certificate_size, text);
+  if (status == NONOBENCH_DONE) status = write_givens(asked, &givens, &size, text);
+  if (status == NONOBENCH_DONE) status = start(&desk, text);
+  if (status == NONOBENCH_DONE) {
+    status =
+        asked->any_given
+            ? nonobench_check(&desk, file, picture_size, cert, certificate_size, word, word_size)
+            : nonobench_check_published(
+                  &desk,
+                  file,
+                  picture_size,
+                  cert,
+                  certificate_size,
+                  bytes_of(givens),
+                  size,
+                  word,
+                  word_size
+              );
+    tell(&desk, status, text);
     nonobench_end(desk);
-    return status;
+  }
+  free(givens);
+  return status;
+}
+
+uint32_t nonobench_verify_pair(
+    const void *picture,
+    size_t picture_size,
+    const void *certificate,
+    size_t certificate_size,
+    const nonobench_options *options,
+    nonobench_text *text
+) {
+  return nonobench_check_pair(picture, picture_size, certificate, certificate_size, options, text);
+}
+
+uint32_t nonobench_clues(
+    const void *picture, size_t size, const char *background, nonobench_text *text
+) {
+  nonobench_desk *desk;
+  uint32_t handle, status = open_one(&desk, &handle, picture, size, background, text);
+  if (status != NONOBENCH_DONE) return status;
+  status = ask(&desk, handle, "clues\n", text);
+  nonobench_end(desk);
+  return status;
 }
 
 /* Whether an allowance is lawful: DONE, or OPTIONS with its text. */
 static uint32_t look_allowance(int32_t allowance, nonobench_text *text) {
-    if (allowance <= MOST_ALLOWANCE) return NONOBENCH_DONE;
-    put(text, "allowance must be 0 to 99999");
-    return NONOBENCH_OPTIONS;
+  if (allowance <= MOST_ALLOWANCE) return NONOBENCH_DONE;
+  put(text, "allowance must be 0 to 99999");
+  return NONOBENCH_OPTIONS;
 }
 
 /* The verdict of a bench under an allowance: `ruling` and `text` become what is found. */
-static uint32_t judge(nonobench_desk **desk, uint32_t handle, int32_t allowance, nonobench_ruling *ruling, nonobench_text *text) {
-    char line[32], word[10] = "";
-    nonobench_text own = {word, sizeof word, 0};
-    uint32_t status = NONOBENCH_DONE;
-    if (allowance >= 0) {
-        snprintf(line, sizeof line, "allow %d\n", (int)allowance);
-        status = ask(desk, handle, line, text);
-    }
-    if (status == NONOBENCH_DONE) status = ask(desk, handle, "verdict\n", text);
-    if (status != NONOBENCH_DONE) return status;
-    take(desk, &own);
-    *ruling = word[0] == 'a' ? NONOBENCH_AMBIGUOUS : strncmp(word, "uni", 3) == 0 ? NONOBENCH_UNIQUE : NONOBENCH_UNDECIDED;
-    return status;
+static uint32_t judge(
+    nonobench_desk **desk,
+    uint32_t handle,
+    int32_t allowance,
+    nonobench_ruling *ruling,
+    nonobench_text *text
+) {
+  char line[32], word[10] = "";
+  nonobench_text own = {word, sizeof word, 0};
+  uint32_t status = NONOBENCH_DONE;
+  if (allowance >= 0) {
+    snprintf(line, sizeof line, "allow %d\n", (int)allowance);
+    status = ask(desk, handle, line, text);
+  }
+  if (status == NONOBENCH_DONE) status = ask(desk, handle, "verdict\n", text);
+  if (status != NONOBENCH_DONE) return status;
+  take(desk, &own);
+  *ruling = word[0] == 'a'                 ? NONOBENCH_AMBIGUOUS
+            : strncmp(word, "uni", 3) == 0 ? NONOBENCH_UNIQUE
+                                           : NONOBENCH_UNDECIDED;
+  return status;
 }
 
-uint32_t nonobench_verdict(const void *picture, size_t size, const char *background, int32_t allowance, nonobench_ruling *ruling,
-                           nonobench_text *text) {
-    nonobench_desk *desk;
-    nonobench_ruling own = NONOBENCH_UNDECIDED;
-    uint32_t handle, status = look_allowance(allowance, text);
-    if (status == NONOBENCH_DONE) status = open_one(&desk, &handle, picture, size, background, text);
-    if (status != NONOBENCH_DONE) return status;
-    status = judge(&desk, handle, allowance, &own, text);
-    if (status == NONOBENCH_DONE && ruling) *ruling = own;
-    nonobench_end(desk);
-    return status;
+uint32_t nonobench_verdict(
+    const void *picture,
+    size_t size,
+    const char *background,
+    int32_t allowance,
+    nonobench_ruling *ruling,
+    nonobench_text *text
+) {
+  nonobench_desk *desk;
+  nonobench_ruling own = NONOBENCH_UNDECIDED;
+  uint32_t handle, status = look_allowance(allowance, text);
+  if (status == NONOBENCH_DONE) status = open_one(&desk, &handle, picture, size, background, text);
+  if (status != NONOBENCH_DONE) return status;
+  status = judge(&desk, handle, allowance, &own, text);
+  if (status == NONOBENCH_DONE && ruling) *ruling = own;
+  nonobench_end(desk);
+  return status;
 }
 
-/* Keeps the text of the last call: UNIQUE with the certificate that it is, in room of its own, or the ruling that it tells. */
-static uint32_t keep(nonobench_desk **desk, uint32_t status, nonobench_audited *found, nonobench_text *text) {
-    char front[10] = "";
-    nonobench_text own = {front, sizeof front, 0};
-    if (status != NONOBENCH_DONE) return tell(desk, status, text);
-    take(desk, &own);
-    found->ruling = front[0] == 'n' ? NONOBENCH_UNIQUE : front[0] == 'a' ? NONOBENCH_AMBIGUOUS : NONOBENCH_UNDECIDED;
-    if (found->ruling != NONOBENCH_UNIQUE) return status;
-    found->certificate = (char *)malloc(own.size + 1);
-    if (!found->certificate) return tell(desk, NONOBENCH_MEMORY, text);
-    nonobench_text whole = {found->certificate, own.size + 1, 0};
-    take(desk, &whole);
-    found->certificate_size = own.size;
-    return status;
+/* Keeps the text of the last call: UNIQUE with the certificate that it is, in room of its own, or
+ * the ruling that it tells. */
+static uint32_t keep(
+    nonobench_desk **desk, uint32_t status, nonobench_audited *found, nonobench_text *text
+) {
+  char front[10] = "";
+  nonobench_text own = {front, sizeof front, 0};
+  if (status != NONOBENCH_DONE) return tell(desk, status, text);
+  take(desk, &own);
+  found->ruling = front[0] == 'n'   ? NONOBENCH_UNIQUE
+                  : front[0] == 'a' ? NONOBENCH_AMBIGUOUS
+                                    : NONOBENCH_UNDECIDED;
+  if (found->ruling != NONOBENCH_UNIQUE) return status;
+  found->certificate = (char *)malloc(own.size + 1);
+  if (!found->certificate) return tell(desk, NONOBENCH_MEMORY, text);
+  nonobench_text whole = {found->certificate, own.size + 1, 0};
+  take(desk, &whole);
+  found->certificate_size = own.size;
+  return status;
 }
 
 /* Asks a bench for a certificate. */
-static uint32_t certify(nonobench_desk **desk, uint32_t handle, nonobench_audited *found, nonobench_text *text) {
-    return keep(desk, ask(desk, handle, "certify\n", NULL), found, text);
+static uint32_t certify(
+    nonobench_desk **desk, uint32_t handle, nonobench_audited *found, nonobench_text *text
+) {
+  return keep(desk, ask(desk, handle, "certify\n", NULL), found, text);
 }
 
-uint32_t nonobench_certify(const void *picture, size_t size, const char *background, nonobench_audited *found,
-                           nonobench_text *text) {
-    nonobench_desk *desk;
-    uint32_t handle, status;
-    *found = (nonobench_audited){NONOBENCH_UNDECIDED, NULL, 0};
-    status = open_one(&desk, &handle, picture, size, background, text);
-    if (status != NONOBENCH_DONE) return status;
+uint32_t nonobench_certify(
+    const void *picture,
+    size_t size,
+    const char *background,
+    nonobench_audited *found,
+    nonobench_text *text
+) {
+  nonobench_desk *desk;
+  uint32_t handle, status;
+  *found = (nonobench_audited){NONOBENCH_UNDECIDED, NULL, 0};
+  status = open_one(&desk, &handle, picture, size, background, text);
+  if (status != NONOBENCH_DONE) return status;
+  status = certify(&desk, handle, found, text);
+  nonobench_end(desk);
+  if (status != NONOBENCH_DONE) found->ruling = NONOBENCH_UNDECIDED;
+  if (status == NONOBENCH_DONE) put(text, found->certificate ? "unique\n" : "ambiguous\n");
+  return status;
+}
+
+uint32_t nonobench_prove_picture(
+    const void *picture,
+    size_t size,
+    const char *background,
+    nonobench_audited *found,
+    nonobench_text *text
+) {
+  static const char *const RULINGS[] = {"undecided\n", "unique\n", "ambiguous\n"};
+  nonobench_desk *desk;
+  uint32_t status = look(picture, size, text);
+  *found = (nonobench_audited){NONOBENCH_UNDECIDED, NULL, 0};
+  if (status == NONOBENCH_DONE) status = start(&desk, text);
+  if (status != NONOBENCH_DONE) return status;
+  status =
+      nonobench_prove(&desk, bytes_of(picture), size, bytes_of(background), length_of(background));
+  status = keep(&desk, status, found, text);
+  nonobench_end(desk);
+  if (status != NONOBENCH_DONE) found->ruling = NONOBENCH_UNDECIDED;
+  if (status == NONOBENCH_DONE) put(text, RULINGS[found->ruling]);
+  return status;
+}
+
+uint32_t nonobench_audit(
+    const void *picture,
+    size_t size,
+    const char *background,
+    int32_t allowance,
+    nonobench_audited *found,
+    nonobench_text *text
+) {
+  nonobench_desk *desk;
+  uint32_t handle, status = look_allowance(allowance, text);
+  *found = (nonobench_audited){NONOBENCH_UNDECIDED, NULL, 0};
+  if (status == NONOBENCH_DONE) status = open_one(&desk, &handle, picture, size, background, text);
+  if (status != NONOBENCH_DONE) return status;
+  status = judge(&desk, handle, allowance, &found->ruling, text);
+  if (status == NONOBENCH_DONE && found->ruling == NONOBENCH_UNIQUE)
     status = certify(&desk, handle, found, text);
-    nonobench_end(desk);
-    if (status != NONOBENCH_DONE) found->ruling = NONOBENCH_UNDECIDED;
-    if (status == NONOBENCH_DONE) put(text, found->certificate ? "unique\n" : "ambiguous\n");
-    return status;
+  nonobench_end(desk);
+  if (status != NONOBENCH_DONE) found->ruling = NONOBENCH_UNDECIDED;
+  return status;
 }
 
-uint32_t nonobench_prove_picture(const void *picture, size_t size, const char *background, nonobench_audited *found,
-                                 nonobench_text *text) {
-    static const char *const RULINGS[] = {"undecided\n", "unique\n", "ambiguous\n"};
-    nonobench_desk *desk;
-    uint32_t status = look(picture, size, text);
-    *found = (nonobench_audited){NONOBENCH_UNDECIDED, NULL, 0};
-    if (status == NONOBENCH_DONE) status = start(&desk, text);
-    if (status != NONOBENCH_DONE) return status;
-    status = nonobench_prove(&desk, bytes_of(picture), size, bytes_of(background), length_of(background));
-    status = keep(&desk, status, found, text);
-    nonobench_end(desk);
-    if (status != NONOBENCH_DONE) found->ruling = NONOBENCH_UNDECIDED;
-    if (status == NONOBENCH_DONE) put(text, RULINGS[found->ruling]);
-    return status;
-}
-
-uint32_t nonobench_audit(const void *picture, size_t size, const char *background, int32_t allowance, nonobench_audited *found,
-                         nonobench_text *text) {
-    nonobench_desk *desk;
-    uint32_t handle, status = look_allowance(allowance, text);
-    *found = (nonobench_audited){NONOBENCH_UNDECIDED, NULL, 0};
-    if (status == NONOBENCH_DONE) status = open_one(&desk, &handle, picture, size, background, text);
-    if (status != NONOBENCH_DONE) return status;
-    status = judge(&desk, handle, allowance, &found->ruling, text);
-    if (status == NONOBENCH_DONE && found->ruling == NONOBENCH_UNIQUE) status = certify(&desk, handle, found, text);
-    nonobench_end(desk);
-    if (status != NONOBENCH_DONE) found->ruling = NONOBENCH_UNDECIDED;
-    return status;
-}
-
-/* Reads the numbers behind a word with which a line begins, as many as there are places for. A line that begins otherwise leaves
- * them. Nothing is allocated, as sscanf does on Windows. */
+/* Reads the numbers behind a word with which a line begins, as many as there are places for. A line
+ * that begins otherwise leaves them. Nothing is allocated, as sscanf does on Windows. */
 static void read_numbers(const char *line, const char *word, uint64_t *numbers, int count) {
-    size_t length = strlen(word);
-    if (strncmp(line, word, length) != 0) return;
-    for (line += length; count > 0 && *line == ' '; count--) {
-        uint64_t number = 0;
-        for (line++; *line >= '0' && *line <= '9'; line++) number = 10 * number + (uint64_t)(*line - '0');
-        *numbers++ = number;
-    }
+  size_t length = strlen(word);
+  if (strncmp(line, word, length) != 0) return;
+  for (line += length; count > 0 && *line == ' '; count--) {
+    uint64_t number = 0;
+    for (line++; *line >= '0' && *line <= '9'; line++)
+      number = 10 * number + (uint64_t)(*line - '0');
+    *numbers++ = number;
+  }
 }
 
 static void read_place(const char *line, const char *word, nonobench_place *place) {
-    uint64_t numbers[] = {place->row, place->column};
-    read_numbers(line, word, numbers, 2);
-    *place = (nonobench_place){(uint32_t)numbers[0], (uint32_t)numbers[1]};
+  uint64_t numbers[] = {place->row, place->column};
+  read_numbers(line, word, numbers, 2);
+  *place = (nonobench_place){(uint32_t)numbers[0], (uint32_t)numbers[1]};
 }
 
 static void read_count(const char *line, const char *word, uint32_t *count) {
-    uint64_t number = *count;
-    read_numbers(line, word, &number, 1);
-    *count = (uint32_t)number;
+  uint64_t number = *count;
+  read_numbers(line, word, &number, 1);
+  *count = (uint32_t)number;
 }
 
 /* Reads the line of a grade. */
 static void read_grade(const char *line, nonobench_assessment *found) {
-    static const char *const WORDS[] = {"",           "grade unknown",   "grade easy",  "grade medium",
-                                        "grade hard", "grade very-hard", "grade expert"};
-    uint64_t numbers[5] = {0};
-    for (int grade = NONOBENCH_UNKNOWN; grade <= NONOBENCH_EXPERT; grade++) {
-        size_t length = strlen(WORDS[grade]);
-        if (strncmp(line, WORDS[grade], length) != 0 || (line[length] != ' ' && line[length] != 0)) continue;
-        found->grade = (nonobench_grade)grade;
-        read_numbers(line, WORDS[grade], numbers, 5);
-    }
-    found->rounds = numbers[0];
-    found->evaluations = numbers[1];
-    found->wait = numbers[2];
-    found->splits = numbers[3];
-    found->depth = numbers[4];
+  static const char *const WORDS[] = {
+      "",
+      "grade unknown",
+      "grade easy",
+      "grade medium",
+      "grade hard",
+      "grade very-hard",
+      "grade expert"};
+  uint64_t numbers[5] = {0};
+  for (int grade = NONOBENCH_UNKNOWN; grade <= NONOBENCH_EXPERT; grade++) {
+    size_t length = strlen(WORDS[grade]);
+    if (strncmp(line, WORDS[grade], length) != 0 || (line[length] != ' ' && line[length] != 0))
+      continue;
+    found->grade = (nonobench_grade)grade;
+    read_numbers(line, WORDS[grade], numbers, 5);
+  }
+  found->rounds = numbers[0];
+  found->evaluations = numbers[1];
+  found->wait = numbers[2];
+  found->splits = numbers[3];
+  found->depth = numbers[4];
 }
 
 /* Reads the line of a flaw. */
 static void read_flaw(const char *line, nonobench_assessment *found) {
-    static const char ALIKE[] = "flaw alike ";
-    char *pair = found->alike[found->alike_count < NONOBENCH_MOST_ALIKE ? found->alike_count : 0];
-    if (strcmp(line, "flaw blank") == 0) found->is_blank = true;
-    if (strcmp(line, "flaw background") == 0) found->lacks_background = true;
-    read_place(line, "flaw given", &found->given);
-    read_place(line, "flaw spare", &found->spare);
-    if (strncmp(line, ALIKE, strlen(ALIKE)) == 0 && strlen(line) == strlen(ALIKE) + 3) {
-        pair[0] = line[strlen(ALIKE)];
-        pair[1] = line[strlen(ALIKE) + 2];
-        found->alike_count++;
-    }
+  static const char ALIKE[] = "flaw alike ";
+  char *pair = found->alike[found->alike_count < NONOBENCH_MOST_ALIKE ? found->alike_count : 0];
+  if (strcmp(line, "flaw blank") == 0) found->is_blank = true;
+  if (strcmp(line, "flaw background") == 0) found->lacks_background = true;
+  read_place(line, "flaw given", &found->given);
+  read_place(line, "flaw spare", &found->spare);
+  if (strncmp(line, ALIKE, strlen(ALIKE)) == 0 && strlen(line) == strlen(ALIKE) + 3) {
+    pair[0] = line[strlen(ALIKE)];
+    pair[1] = line[strlen(ALIKE) + 2];
+    found->alike_count++;
+  }
 }
 
 /* Reads a line of an assessment. No row of a picture is like one. */
 static void read_assessed(const char *line, nonobench_assessment *found) {
-    static const char *const RULINGS[] = {"undecided", "unique", "ambiguous"};
-    nonobench_place size = {found->rows, found->columns};
-    for (int ruling = 0; ruling < 3; ruling++) {
-        if (strcmp(line, RULINGS[ruling]) == 0) found->ruling = (nonobench_ruling)ruling;
-    }
-    read_place(line, "size", &size);
-    found->rows = size.row;
-    found->columns = size.column;
-    read_count(line, "colours", &found->colours);
-    read_count(line, "givens", &found->givens);
-    read_count(line, "open", &found->open);
-    read_place(line, "unknown given", &found->unknown);
-    if (strncmp(line, "grade ", 6) == 0) read_grade(line, found);
-    if (strncmp(line, "flaw ", 5) == 0) read_flaw(line, found);
-    found->is_fit = strcmp(line, "fit") == 0;
+  static const char *const RULINGS[] = {"undecided", "unique", "ambiguous"};
+  nonobench_place size = {found->rows, found->columns};
+  for (int ruling = 0; ruling < 3; ruling++) {
+    if (strcmp(line, RULINGS[ruling]) == 0) found->ruling = (nonobench_ruling)ruling;
+  }
+  read_place(line, "size", &size);
+  found->rows = size.row;
+  found->columns = size.column;
+  read_count(line, "colours", &found->colours);
+  read_count(line, "givens", &found->givens);
+  read_count(line, "open", &found->open);
+  read_place(line, "unknown given", &found->unknown);
+  if (strncmp(line, "grade ", 6) == 0) read_grade(line, found);
+  if (strncmp(line, "flaw ", 5) == 0) read_flaw(line, found);
+  found->is_fit = strcmp(line, "fit") == 0;
 }
 
 /* Lets an assessment be undecided, and not fit. */
 static void clear(nonobench_assessment *found) {
-    size_t size = found->size;
-    memset(found, 0, size);
-    if (size >= sizeof size) found->size = size;
+  size_t size = found->size;
+  memset(found, 0, size);
+  if (size >= sizeof size) found->size = size;
 }
 
 /* Reads the text of the last call, an assessment, as far as there is room for its fields. */
-static uint32_t keep_assessed(nonobench_desk **desk, nonobench_assessment *found, nonobench_text *text) {
-    nonobench_assessment own = {0};
-    uint8_t none;
-    size_t size = nonobench_take(desk, &none, 0);
-    char *said, *line, *end;
-    if (reserve((void **)&said, size + 1, text) != NONOBENCH_DONE) return NONOBENCH_MEMORY;
-    nonobench_take(desk, (uint8_t *)said, size);
-    said[size] = 0;
-    for (line = said; (end = strchr(line, '\n')); line = end + 1) {
-        *end = 0;
-        read_assessed(line, &own);
-    }
-    free(said);
-    own.size = found->size;
-    memcpy(found, &own, own.size < sizeof own ? own.size : sizeof own);
-    return NONOBENCH_DONE;
+static uint32_t keep_assessed(
+    nonobench_desk **desk, nonobench_assessment *found, nonobench_text *text
+) {
+  nonobench_assessment own = {0};
+  uint8_t none;
+  size_t size = nonobench_take(desk, &none, 0);
+  char *said, *line, *end;
+  if (reserve((void **)&said, size + 1, text) != NONOBENCH_DONE) return NONOBENCH_MEMORY;
+  nonobench_take(desk, (uint8_t *)said, size);
+  said[size] = 0;
+  for (line = said; (end = strchr(line, '\n')); line = end + 1) {
+    *end = 0;
+    read_assessed(line, &own);
+  }
+  free(said);
+  own.size = found->size;
+  memcpy(found, &own, own.size < sizeof own ? own.size : sizeof own);
+  return NONOBENCH_DONE;
 }
 
-/* The givens that a certificate names, whichever they are, as those that are published. Of a picture it is checked first, on a desk:
- * what is wrong with it is told as its own fault. A .non text has no desk here. */
-static uint32_t publish_named(nonobench_desk **desk, const uint8_t *files[3], const size_t sizes[3], nonobench_options *asked,
-                              nonobench_place **places, nonobench_text *text) {
-    uint32_t status = desk ? nonobench_check(desk, files[0], sizes[0], files[1], sizes[1], files[2], sizes[2]) : NONOBENCH_DONE;
-    if (status != NONOBENCH_DONE) return tell(desk, status, text);
-    asked->published_count = nonobench_givens(files[1], sizes[1], NULL, 0);
-    status = reserve((void **)places, (asked->published_count + 1) * sizeof **places, text);
-    if (status == NONOBENCH_DONE) nonobench_givens(files[1], sizes[1], *places, asked->published_count);
-    asked->published = *places;
-    return status;
+/* The givens that a certificate names, whichever they are, as those that are published. Of a
+ * picture it is checked first, on a desk: what is wrong with it is told as its own fault. A .non
+ * text has no desk here. */
+static uint32_t publish_named(
+    nonobench_desk **desk,
+    const uint8_t *files[3],
+    const size_t sizes[3],
+    nonobench_options *asked,
+    nonobench_place **places,
+    nonobench_text *text
+) {
+  uint32_t status =
+      desk ? nonobench_check(desk, files[0], sizes[0], files[1], sizes[1], files[2], sizes[2])
+           : NONOBENCH_DONE;
+  if (status != NONOBENCH_DONE) return tell(desk, status, text);
+  asked->published_count = nonobench_givens(files[1], sizes[1], NULL, 0);
+  status = reserve((void **)places, (asked->published_count + 1) * sizeof **places, text);
+  if (status == NONOBENCH_DONE)
+    nonobench_givens(files[1], sizes[1], *places, asked->published_count);
+  asked->published = *places;
+  return status;
 }
 
-uint32_t nonobench_assess_puzzle(const void *puzzle, size_t puzzle_size, bool non, const void *certificate, size_t certificate_size,
-                                 const nonobench_options *options, int32_t allowance, nonobench_assessment *found,
-                                 nonobench_text *text) {
-    nonobench_options asked = options ? *options : (nonobench_options){NULL, NULL, 0, false};
-    const uint8_t *files[] = {bytes_of(puzzle), bytes_of(certificate), bytes_of(asked.background)};
-    const size_t sizes[] = {puzzle_size, certificate_size, length_of(asked.background)};
-    size_t size = 0;
-    char *givens = NULL;
-    nonobench_place *named = NULL;
-    nonobench_desk *desk;
-    uint32_t status = look_allowance(allowance, text);
-    clear(found);
-    if (status == NONOBENCH_DONE) status = look(puzzle, puzzle_size, text);
-    if (status == NONOBENCH_DONE) status = look(certificate, certificate_size, text);
-    if (status == NONOBENCH_DONE && non && sizes[2] > 0) {
-        put(text, "background goes with ppm");
-        status = NONOBENCH_OPTIONS;
-    }
-    if (status == NONOBENCH_DONE) status = start(&desk, text);
-    if (status != NONOBENCH_DONE) return status;
-    if (asked.any_given && certificate) status = publish_named(non ? NULL : &desk, files, sizes, &asked, &named, text);
-    if (status == NONOBENCH_DONE) status = write_givens(&asked, &givens, &size, text);
-    if (status == NONOBENCH_DONE) {
-        status = nonobench_assess(&desk, files[0], sizes[0], non, files[2], sizes[2], true, bytes_of(givens), size, certificate != NULL,
-                                  files[1], sizes[1], allowance < 0 ? UINT32_MAX : (uint32_t)allowance);
-        tell(&desk, status, text);
-        if (status == NONOBENCH_DONE) status = keep_assessed(&desk, found, text);
-    }
-    nonobench_end(desk);
-    free(givens);
-    free(named);
-    return status;
+uint32_t nonobench_assess_puzzle(
+    const void *puzzle,
+    size_t puzzle_size,
+    bool non,
+    const void *certificate,
+    size_t certificate_size,
+    const nonobench_options *options,
+    int32_t allowance,
+    nonobench_assessment *found,
+    nonobench_text *text
+) {
+  nonobench_options asked = options ? *options : (nonobench_options){NULL, NULL, 0, false};
+  const uint8_t *files[] = {bytes_of(puzzle), bytes_of(certificate), bytes_of(asked.background)};
+  const size_t sizes[] = {puzzle_size, certificate_size, length_of(asked.background)};
+  size_t size = 0;
+  char *givens = NULL;
+  nonobench_place *named = NULL;
+  nonobench_desk *desk;
+  uint32_t status = look_allowance(allowance, text);
+  clear(found);
+  if (status == NONOBENCH_DONE) status = look(puzzle, puzzle_size, text);
+  if (status == NONOBENCH_DONE) status = look(certificate, certificate_size, text);
+  if (status == NONOBENCH_DONE && non && sizes[2] > 0) {
+    put(text, "background goes with ppm");
+    status = NONOBENCH_OPTIONS;
+  }
+  if (status == NONOBENCH_DONE) status = start(&desk, text);
+  if (status != NONOBENCH_DONE) return status;
+  if (asked.any_given && certificate)
+    status = publish_named(non ? NULL : &desk, files, sizes, &asked, &named, text);
+  if (status == NONOBENCH_DONE) status = write_givens(&asked, &givens, &size, text);
+  if (status == NONOBENCH_DONE) {
+    status = nonobench_assess(
+        &desk,
+        files[0],
+        sizes[0],
+        non,
+        files[2],
+        sizes[2],
+        true,
+        bytes_of(givens),
+        size,
+        certificate != NULL,
+        files[1],
+        sizes[1],
+        allowance < 0 ? UINT32_MAX : (uint32_t)allowance
+    );
+    tell(&desk, status, text);
+    if (status == NONOBENCH_DONE) status = keep_assessed(&desk, found, text);
+  }
+  nonobench_end(desk);
+  free(givens);
+  free(named);
+  return status;
 }

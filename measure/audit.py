@@ -44,7 +44,11 @@ def blobs(rng, colours):
 
 def p3(rows):
     """A P3 text of rows of colours."""
-    return (f"P3\n{SIDE} {SIDE}\n255\n" + "\n".join(TRIPLES[colour] for row in rows for colour in row) + "\n").encode()
+    return (
+        f"P3\n{SIDE} {SIDE}\n255\n"
+        + "\n".join(TRIPLES[colour] for row in rows for colour in row)
+        + "\n"
+    ).encode()
 
 
 def pictures(count, seed):
@@ -73,7 +77,12 @@ def draw(folder, count=20_000, seed=1):
 
 def spent(words, **more):
     """The seconds of processors that a command takes."""
-    env = {**os.environ, "PYTHONPATH": str(ROOT / "python" / "src"), "PYTHONDONTWRITEBYTECODE": "1", **more}
+    env = {
+        **os.environ,
+        "PYTHONPATH": str(ROOT / "python" / "src"),
+        "PYTHONDONTWRITEBYTECODE": "1",
+        **more,
+    }
     before = resource.getrusage(resource.RUSAGE_CHILDREN)
     subprocess.run(words, env=env, stdout=subprocess.DEVNULL, check=False)
     after = resource.getrusage(resource.RUSAGE_CHILDREN)
@@ -88,12 +97,23 @@ def beside(folder, other):
         words = [*PROGRAM, folder, "--quiet", "--jobs", "1", "--jsonl"]
         ours, theirs = [], []
         for _ in range(3):
-            theirs.append(spent([*words, f"{work}/old", "--no-grade"], PYTHONPATH=str(package), NONOBENCH_LIBRARY=str(old)))
+            theirs.append(
+                spent(
+                    [*words, f"{work}/old", "--no-grade"],
+                    PYTHONPATH=str(package),
+                    NONOBENCH_LIBRARY=str(old),
+                )
+            )
             ours.append(spent([*words, f"{work}/new"]))
-        verdicts = [[json.loads(line)["verdict"] for line in Path(work, name).read_text().splitlines()] for name in ("old", "new")]
+        verdicts = [
+            [json.loads(line)["verdict"] for line in Path(work, name).read_text().splitlines()]
+            for name in ("old", "new")
+        ]
         assert verdicts[0] == verdicts[1], "the verdicts differ"
     each = [1000 * min(times) / len(verdicts[0]) for times in (ours, theirs)]
-    print(f"{len(verdicts[0])} puzzles: {each[0]:.3f} ms of processors each, 0.6.0 without grades {each[1]:.3f}: {each[0] / each[1]:.2f} times, load {os.getloadavg()[0]:.0f}")
+    print(
+        f"{len(verdicts[0])} puzzles: {each[0]:.3f} ms of processors each, 0.6.0 without grades {each[1]:.3f}: {each[0] / each[1]:.2f} times, load {os.getloadavg()[0]:.0f}"
+    )
 
 
 def main():

@@ -49,18 +49,25 @@ def main():
     parser.add_argument('folder', nargs='+')
     parser.add_argument('--seconds', type=float, default=10)
     asked = parser.parse_args()
-    pictures = {file.stem: file for one in asked.folder for file in sorted(Path(one).rglob('*.ppm'))}
+    pictures = {
+        file.stem: file for one in asked.folder for file in sorted(Path(one).rglob('*.ppm'))
+    }
     rows = [row for row in read_rows(asked.csv) if row['program'] not in (CLAUSAL, HINTS, VERIFIED)]
     made = []
     with tempfile.TemporaryDirectory() as folder:
         limit, lrat = Limit(folder, asked.seconds), str(Path(folder) / 'lrat')
         subprocess.run(['c++', '-O2', '-std=c++17', '-o', lrat, str(HERE / 'lrat.cpp')], check=True)
-        print(f'acl2 with its book, and nothing to check: {limit.run(["acl2"], BOOK)[1]:.1f} s', file=sys.stderr)
+        print(
+            f'acl2 with its book, and nothing to check: {limit.run(["acl2"], BOOK)[1]:.1f} s',
+            file=sys.stderr,
+        )
         for row in rows:
             if row['program'] == 'nonobench' and row['answer'] == 'unique':
                 for words in proof(limit, lrat, pictures[row['picture']].resolve()):
                     print(row['picture'], *words, file=sys.stderr, flush=True)
-                    made.append({**row, **dict(zip(('program', 'answer', 'seconds', 'bytes'), words))})
+                    made.append(
+                        {**row, **dict(zip(('program', 'answer', 'seconds', 'bytes'), words))}
+                    )
     write_rows(asked.csv, rows + made)
     print_tables(rows + made)
 

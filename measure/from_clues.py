@@ -21,7 +21,20 @@ from reference.non import write_non  # noqa: E402
 from reference.pictures import read_ppm  # noqa: E402
 
 SECONDS = 10
-NOISE = ((20, 50), (25, 50), (30, 40), (30, 50), (30, 60), (40, 30), (40, 50), (40, 60), (50, 50), (60, 30), (60, 50), (60, 70))
+NOISE = (
+    (20, 50),
+    (25, 50),
+    (30, 40),
+    (30, 50),
+    (30, 60),
+    (40, 30),
+    (40, 50),
+    (40, 60),
+    (50, 50),
+    (60, 30),
+    (60, 50),
+    (60, 70),
+)
 RINGS = ((3.1, 3.4, 48), (4, 4.5, 48), (2.5, 2.7, 40), (5, 5.5, 60), (3, 3.3, 32), (2.2, 2.4, 60))
 CHEQUERS = ((20, 2), (30, 2), (40, 2), (60, 2), (30, 3), (60, 3), (60, 5))
 STRIPES = ((30, 4), (60, 4), (60, 7), (60, 10), (40, 5))
@@ -38,7 +51,14 @@ def disc(cells, row, col, high, wide, colour, hollow=0.0):
 def blobs(rng, h, w, k):
     cells = [[0] * w for _ in range(h)]
     for _ in range(rng.randrange(4, 4 + (h + w) // 3)):
-        disc(cells, rng.randrange(h), rng.randrange(w), rng.uniform(1, h / 5), rng.uniform(1, w / 5), rng.randrange(k))
+        disc(
+            cells,
+            rng.randrange(h),
+            rng.randrange(w),
+            rng.uniform(1, h / 5),
+            rng.uniform(1, w / 5),
+            rng.randrange(k),
+        )
     return cells
 
 
@@ -46,14 +66,27 @@ def rings(rng, h, w, k):
     cells = [[0] * w for _ in range(h)]
     for _ in range(rng.randrange(4, 4 + (h + w) // 5)):
         high, wide = rng.uniform(2, h / 3), rng.uniform(2, w / 3)
-        disc(cells, rng.randrange(h), rng.randrange(w), high, wide, rng.randrange(1, k), max(0.0, 1 - 3.2 / min(high, wide)))
+        disc(
+            cells,
+            rng.randrange(h),
+            rng.randrange(w),
+            high,
+            wide,
+            rng.randrange(1, k),
+            max(0.0, 1 - 3.2 / min(high, wide)),
+        )
     return cells
 
 
 def lines(rng, h, w, k):
     cells = [[0] * w for _ in range(h)]
     for _ in range(rng.randrange(5, 5 + (h + w) // 4)):
-        r, c, colour, thick = rng.randrange(h), rng.randrange(w), rng.randrange(1, k), rng.choice((1, 1, 2))
+        r, c, colour, thick = (
+            rng.randrange(h),
+            rng.randrange(w),
+            rng.randrange(1, k),
+            rng.choice((1, 1, 2)),
+        )
         angle, length = rng.uniform(0, 2 * math.pi), rng.uniform(4, max(h, w))
         for step in range(int(2 * length)):
             y, x = r + math.sin(angle) * step / 2, c + math.cos(angle) * step / 2
@@ -69,27 +102,43 @@ def smooth(cells, rng, rounds):
         new = [[0] * w for _ in range(h)]
         for r in range(h):
             for c in range(w):
-                near = [cells[y][x] for y in range(max(0, r - 1), min(h, r + 2)) for x in range(max(0, c - 1), min(w, c + 2))]
+                near = [
+                    cells[y][x]
+                    for y in range(max(0, r - 1), min(h, r + 2))
+                    for x in range(max(0, c - 1), min(w, c + 2))
+                ]
                 full = [x for x in near if x]
-                new[r][c] = max(set(full), key=lambda x: (full.count(x), -x)) if 2 * len(full) > len(near) else 0
+                new[r][c] = (
+                    max(set(full), key=lambda x: (full.count(x), -x))
+                    if 2 * len(full) > len(near)
+                    else 0
+                )
         cells = new
     return cells
 
 
 def icons(rng, h, w, k):
     half = (w + 1) // 2
-    cells = [[rng.randrange(1, k) if rng.random() < 0.52 else 0 for _ in range(half)] for _ in range(h)]
+    cells = [
+        [rng.randrange(1, k) if rng.random() < 0.52 else 0 for _ in range(half)] for _ in range(h)
+    ]
     cells = smooth(cells, rng, rng.choice((1, 2)))
-    return [row + row[:w - half][::-1] for row in cells]
+    return [row + row[: w - half][::-1] for row in cells]
 
 
 def caves(rng, h, w, k):
-    return smooth([[rng.randrange(1, k) if rng.random() < 0.5 else 0 for _ in range(w)] for _ in range(h)], rng, 2)
+    return smooth(
+        [[rng.randrange(1, k) if rng.random() < 0.5 else 0 for _ in range(w)] for _ in range(h)],
+        rng,
+        2,
+    )
 
 
 def noise(rng, h, w, k):
     density = rng.uniform(0.15, 0.85)
-    return [[rng.randrange(1, k) if rng.random() < density else 0 for _ in range(w)] for _ in range(h)]
+    return [
+        [rng.randrange(1, k) if rng.random() < density else 0 for _ in range(w)] for _ in range(h)
+    ]
 
 
 def square(side, is_filled):
@@ -103,23 +152,39 @@ def of_kinds():
         rng = random.Random(f'{kind.__name__}7')
         for number in range(6):
             height, width = rng.randrange(20, 41), rng.randrange(20, 41)
-            yield f'{kind.__name__}-{number}', [[int(colour > 0) for colour in row] for row in kind(rng, height, width, 2)]
+            yield f'{kind.__name__}-{number}', [
+                [int(colour > 0) for colour in row] for row in kind(rng, height, width, 2)
+            ]
 
 
 def periodic():
     """Pictures with regular patterns, and noise."""
     for side, percent in NOISE:
         rng = random.Random(side * 100 + percent)
-        yield f'noise-{side}-d{percent}', square(side, lambda row, col: rng.random() < percent / 100)
+        yield f'noise-{side}-d{percent}', square(
+            side, lambda row, col: rng.random() < percent / 100
+        )
     for number, (one, other, side) in enumerate(RINGS):
+
         def ring(row, col, wide, part):
             return math.floor(math.hypot(row - side * part, col - side * part) / wide)
-        yield f'moire-{number}', square(side, lambda row, col: (ring(row, col, one, .3) + ring(row, col, other, .7)) % 2)
-        yield f'square-{number}', square(side, lambda row, col: math.floor(((row - side / 2) ** 2 + (col - side / 2) ** 2) / (one * 6)) % 2)
+
+        yield f'moire-{number}', square(
+            side, lambda row, col: (ring(row, col, one, 0.3) + ring(row, col, other, 0.7)) % 2
+        )
+        yield f'square-{number}', square(
+            side,
+            lambda row, col: math.floor(((row - side / 2) ** 2 + (col - side / 2) ** 2) / (one * 6))
+            % 2,
+        )
     for side, wide in CHEQUERS:
-        yield f'chequers-{side}-t{wide}', square(side, lambda row, col: (row // wide + col // wide) % 2)
+        yield f'chequers-{side}-t{wide}', square(
+            side, lambda row, col: (row // wide + col // wide) % 2
+        )
     for side, period in STRIPES:
-        yield f'stripes-{side}-p{period}', square(side, lambda row, col: (row + col) % period < period // 2)
+        yield f'stripes-{side}-p{period}', square(
+            side, lambda row, col: (row + col) % period < period // 2
+        )
 
 
 def of_folder(folder):
@@ -133,8 +198,22 @@ def of_folder(folder):
 def seconds_to_open(program, puzzle):
     """The processor time that opening takes, or None if it takes too long."""
     before = resource.getrusage(resource.RUSAGE_CHILDREN)
-    run = subprocess.run(['bash', '-c', f'ulimit -t {SECONDS}; exec "$@"', 'limited', program, 'work', puzzle, '--format', 'non'],
-                         stdin=subprocess.DEVNULL, capture_output=True, check=False)
+    run = subprocess.run(
+        [
+            'bash',
+            '-c',
+            f'ulimit -t {SECONDS}; exec "$@"',
+            'limited',
+            program,
+            'work',
+            puzzle,
+            '--format',
+            'non',
+        ],
+        stdin=subprocess.DEVNULL,
+        capture_output=True,
+        check=False,
+    )
     after = resource.getrusage(resource.RUSAGE_CHILDREN)
     if run.returncode > 0:
         sys.exit(run.stderr.decode())

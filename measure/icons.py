@@ -21,18 +21,43 @@ TRUETYPE = "/usr/share/fonts/truetype"
 # For each letter of a name: the font, its points, the code points to draw from, and how many glyphs are wanted.
 SETS = {
     "first": {
-        "s": (f"{TRUETYPE}/ancient-scripts/Symbola_hint.ttf", 400, [*range(0x2600, 0x2700), *range(0x1F300, 0x1F580)], 40),
-        "d": (f"{TRUETYPE}/dejavu/DejaVuSans.ttf", 400, [*range(0x2600, 0x26C0), *range(0x2701, 0x27BF)], 20),
+        "s": (
+            f"{TRUETYPE}/ancient-scripts/Symbola_hint.ttf",
+            400,
+            [*range(0x2600, 0x2700), *range(0x1F300, 0x1F580)],
+            40,
+        ),
+        "d": (
+            f"{TRUETYPE}/dejavu/DejaVuSans.ttf",
+            400,
+            [*range(0x2600, 0x26C0), *range(0x2701, 0x27BF)],
+            20,
+        ),
         "e": (EMOJI, 109, [*range(0x1F300, 0x1F5A0), *range(0x1F600, 0x1F640)], 30),
     },
     "second": {
-        "f": (f"{TRUETYPE}/font-awesome/fontawesome-webfont.ttf", 400, [*range(0xF000, 0xF2E1)], 40),
+        "f": (
+            f"{TRUETYPE}/font-awesome/fontawesome-webfont.ttf",
+            400,
+            [*range(0xF000, 0xF2E1)],
+            40,
+        ),
         "o": (f"{TRUETYPE}/libreoffice/opens___.ttf", 400, [*range(0xE000, 0xE4D0)], 20),
         "e": (EMOJI, 109, [*range(0x1F90C, 0x1FA00)], 30),
     },
     "third": {
-        "m": (f"{TRUETYPE}/materialdesignicons-webfont/materialdesignicons-webfont.ttf", 400, [*range(0xF101, 0xF900)], 40),
-        "l": (f"{TRUETYPE}/elusive-icons/elusiveicons-webfont.ttf", 400, [*range(0xF100, 0xF231)], 20),
+        "m": (
+            f"{TRUETYPE}/materialdesignicons-webfont/materialdesignicons-webfont.ttf",
+            400,
+            [*range(0xF101, 0xF900)],
+            40,
+        ),
+        "l": (
+            f"{TRUETYPE}/elusive-icons/elusiveicons-webfont.ttf",
+            400,
+            [*range(0xF100, 0xF231)],
+            20,
+        ),
         "e": (EMOJI, 109, [*range(0x1F680, 0x1F700), *range(0x1FA70, 0x1FB00)], 30),
     },
 }
@@ -57,9 +82,15 @@ def cells_of(square, size, colours):
     if colours == 2:
         small = square.convert("L").resize((size, size), Image.BOX)
         return [(0, 0, 0) if value < 128 else WHITE for value in small.getdata()]
-    small = square.resize((size, size), Image.LANCZOS).quantize(colours, kmeans=3, dither=0).convert("RGB")
+    small = (
+        square.resize((size, size), Image.LANCZOS)
+        .quantize(colours, kmeans=3, dither=0)
+        .convert("RGB")
+    )
     cells = list(small.getdata())
-    ground = collections.Counter([cells[0], cells[size - 1], cells[-1], cells[-size]]).most_common(1)[0][0]
+    ground = collections.Counter([cells[0], cells[size - 1], cells[-1], cells[-size]]).most_common(
+        1
+    )[0][0]
     return [WHITE if cell == ground else cell for cell in cells]
 
 
@@ -67,7 +98,9 @@ def main():
     folder = pathlib.Path(sys.argv[1])
     folder.mkdir(parents=True, exist_ok=True)
     draw = random.Random(int(sys.argv[2]) if len(sys.argv) > 2 else 7)
-    for name, (path, points, codes, wanted) in SETS[sys.argv[3] if len(sys.argv) > 3 else "first"].items():
+    for name, (path, points, codes, wanted) in SETS[
+        sys.argv[3] if len(sys.argv) > 3 else "first"
+    ].items():
         if not pathlib.Path(path).exists():
             print(f"no font {path}: left out", file=sys.stderr)
             continue
@@ -84,7 +117,9 @@ def main():
                 colours = 3 + (made + step) % 4 if name == "e" else 2
                 cells = cells_of(square, size, colours)
                 rows = "\n".join("%d %d %d" % cell for cell in cells)
-                (folder / f"{name}{size}-{code:05x}.ppm").write_text(f"P3\n{size} {size}\n255\n{rows}\n")
+                (folder / f"{name}{size}-{code:05x}.ppm").write_text(
+                    f"P3\n{size} {size}\n255\n{rows}\n"
+                )
             made += 1
         print(f"{name}: {made} glyphs")
 

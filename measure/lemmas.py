@@ -27,7 +27,14 @@ def answer(text):
     """The first word of an answer that is one of those that are known."""
     if text is None:
         return 'open'
-    return next((word for word in text.split() if word in ('unique', 'ambiguous', 'undecided', 'nonocert', 'nonolemma')), 'open')
+    return next(
+        (
+            word
+            for word in text.split()
+            if word in ('unique', 'ambiguous', 'undecided', 'nonocert', 'nonolemma')
+        ),
+        'open',
+    )
 
 
 class Start:
@@ -47,7 +54,9 @@ def proofs(pictures, work, program, maker, checker):
     start = Start(work, program, maker, checker)
     proof, nested = work / 'proof', work / 'nested'
     sizes, ratios = [], []
-    print(f'{"picture":<26} {"verdict":<10} {"certificate":>12} {"proof":>10} {"verify":>14} {"trial":>14} {"times":>6}')
+    print(
+        f'{"picture":<26} {"verdict":<10} {"certificate":>12} {"proof":>10} {"verify":>14} {"trial":>14} {"times":>6}'
+    )
     for picture in pictures:
         verdict = answer(said([program, 'work', picture], 'verdict\n'))
         text = said([program, 'prove', picture])
@@ -60,15 +69,26 @@ def proofs(pictures, work, program, maker, checker):
         ours = native.less(native.collected([program, 'check', picture, proof])[0], start.ours)
         nested.unlink(missing_ok=True)
         said([maker, picture, '--windows', '--limit', str(1000 * SECONDS), '--nested', nested])
-        theirs = native.less(native.collected([checker, picture, nested])[0], start.theirs) if nested.exists() else None
+        theirs = (
+            native.less(native.collected([checker, picture, nested])[0], start.theirs)
+            if nested.exists()
+            else None
+        )
         sizes.append((length, len(text)))
         ratios += [ours / theirs] if theirs else []
         times = f'{ours / theirs:.2f}' if theirs else '-'
-        print(f'{picture.stem:<26} {verdict:<10} {length or "-":>12} {len(text):>10} {ours:>14} {theirs or "-":>14} {times:>6}', flush=True)
+        print(
+            f'{picture.stem:<26} {verdict:<10} {length or "-":>12} {len(text):>10} {ours:>14} {theirs or "-":>14} {times:>6}',
+            flush=True,
+        )
     made = [length for length, _ in sizes if length]
-    print(f'median of {len(made)} certificates: {statistics.median(made):.0f} bytes, of {len(sizes)} proofs: '
-          f'{statistics.median(size for _, size in sizes):.0f}; proofs above 1 MiB: {sum(size > 1 << 20 for _, size in sizes)}')
-    print(f'checks: median {statistics.median(ratios):.2f} times the trial, largest {max(ratios):.2f}')
+    print(
+        f'median of {len(made)} certificates: {statistics.median(made):.0f} bytes, of {len(sizes)} proofs: '
+        f'{statistics.median(size for _, size in sizes):.0f}; proofs above 1 MiB: {sum(size > 1 << 20 for _, size in sizes)}'
+    )
+    print(
+        f'checks: median {statistics.median(ratios):.2f} times the trial, largest {max(ratios):.2f}'
+    )
 
 
 def main():
@@ -80,8 +100,23 @@ def main():
     with tempfile.TemporaryDirectory() as name:
         work = Path(name)
         maker, checker = work / 'lemcert', work / 'lemcheck'
-        subprocess.run(['g++', '-std=c++17', '-O2', '-w', '-o', maker, folder / 'lemmas/lemcert.cpp', '-lpthread'], check=True)
-        subprocess.run(['g++', '-std=c++17', '-O2', '-w', '-o', checker, folder / 'lemmas/lemcheck_min.cpp'], check=True)
+        subprocess.run(
+            [
+                'g++',
+                '-std=c++17',
+                '-O2',
+                '-w',
+                '-o',
+                maker,
+                folder / 'lemmas/lemcert.cpp',
+                '-lpthread',
+            ],
+            check=True,
+        )
+        subprocess.run(
+            ['g++', '-std=c++17', '-O2', '-w', '-o', checker, folder / 'lemmas/lemcheck_min.cpp'],
+            check=True,
+        )
         proofs(pictures, work, program, maker, checker)
 
 

@@ -34,14 +34,24 @@ FIGURES = ('line', 'strokes', 'verdict', 'certify')
 def ended(words, said='', seconds=SECONDS):
     """A run that has ended, or None where it takes too long."""
     try:
-        return subprocess.run([str(word) for word in words], input=said, capture_output=True, text=True, timeout=seconds)
+        return subprocess.run(
+            [str(word) for word in words],
+            input=said,
+            capture_output=True,
+            text=True,
+            timeout=seconds,
+        )
     except subprocess.TimeoutExpired:
         return None
 
 
 def collected(words, said=''):
     """The instructions of a run, and what it printed. None where it takes too long."""
-    run = ended(['valgrind', '--tool=callgrind', '--callgrind-out-file=/dev/null', *words], said, 50 * SECONDS)
+    run = ended(
+        ['valgrind', '--tool=callgrind', '--callgrind-out-file=/dev/null', *words],
+        said,
+        50 * SECONDS,
+    )
     told = run and re.search(r'Collected : (\d+)', run.stderr)
     return (int(told[1]) if told else None), run.stdout if run else ''
 
@@ -67,11 +77,15 @@ class Table:
 
     def end(self):
         if self.ratios:
-            print(f'{self.figure}: median {statistics.median(self.ratios):.2f}, largest {max(self.ratios):.2f}, of {len(self.ratios)}')
+            print(
+                f'{self.figure}: median {statistics.median(self.ratios):.2f}, largest {max(self.ratios):.2f}, of {len(self.ratios)}'
+            )
 
 
 def line(native, folder, start):
-    print(f'\nline\n{"cells":>8} {"blocks":>8} {"settled":>8} {"evaluation":>12} {"leave_out":>12} {"times":>8}')
+    print(
+        f'\nline\n{"cells":>8} {"blocks":>8} {"settled":>8} {"evaluation":>12} {"leave_out":>12} {"times":>8}'
+    )
     swept, rounds = [], 200
     for cells in (120, 65, 64, 63, 62, 30, 15):
         for blocks in (1, 5, 15):
@@ -80,16 +94,29 @@ def line(native, folder, start):
             for settled in ('open', 'half'):
                 cost = []
                 for engine in ('mask', 'sweep'):
-                    few, many = (collected([TABLES, 'line', engine, cells, blocks, settled, n])[0] for n in (1, rounds + 1))
+                    few, many = (
+                        collected([TABLES, 'line', engine, cells, blocks, settled, n])[0]
+                        for n in (1, rounds + 1)
+                    )
                     cost.append((many - few) / rounds)
                 swept.append(cost[1] / cost[0])
-                print(f'{cells:>8} {blocks:>8} {settled:>8} {cost[0]:>12.0f} {cost[1]:>12.0f} {cost[1] / cost[0]:>8.2f}', flush=True)
+                print(
+                    f'{cells:>8} {blocks:>8} {settled:>8} {cost[0]:>12.0f} {cost[1]:>12.0f} {cost[1] / cost[0]:>8.2f}',
+                    flush=True,
+                )
     print(f'leave_out: median {statistics.median(swept):.2f} evaluations, largest {max(swept):.2f}')
 
 
 def picture_of(session, folder):
     name = session.stem.split('_', 1)[1]
-    return next((p for p in (folder / 'pictures' / f'{name}.ppm', folder / 'hard' / f'{name}.ppm') if p.exists()), None)
+    return next(
+        (
+            p
+            for p in (folder / 'pictures' / f'{name}.ppm', folder / 'hard' / f'{name}.ppm')
+            if p.exists()
+        ),
+        None,
+    )
 
 
 def strokes(native, folder, start):
@@ -112,14 +139,24 @@ def compared(table, pictures, asked, theirs, starts):
     """A row for each picture: a session of one command, and a native program on it, both without their starts."""
     for picture in sorted(pictures.glob('*.ppm')):
         runs = ([OURS, 'work', picture], asked), theirs(picture)
-        costs = [collected(*run)[0] for run in runs] if all(ended(*run) for run in runs) else (None, None)
+        costs = (
+            [collected(*run)[0] for run in runs]
+            if all(ended(*run) for run in runs)
+            else (None, None)
+        )
         table.row(picture.stem, *map(less, costs, starts))
     table.end()
 
 
 def verdict(native, folder, start):
     table = Table('verdict', 'picture', 'nonobench', 'native', 'times')
-    compared(table, folder / 'pictures', 'verdict\n', lambda picture: ([native, 'work', picture], 'verdict\n'), start)
+    compared(
+        table,
+        folder / 'pictures',
+        'verdict\n',
+        lambda picture: ([native, 'work', picture], 'verdict\n'),
+        start,
+    )
 
 
 def certify(native, folder, start):
@@ -127,13 +164,19 @@ def certify(native, folder, start):
     writer = native.with_name('treecert')
     build(folder / 'treecert.cpp', writer)
     begun = collected([writer, native.with_name('cell.ppm')])[0]
-    compared(table, folder / 'hard', 'certify\n', lambda picture: ([writer, picture],), (start[0], begun))
+    compared(
+        table, folder / 'hard', 'certify\n', lambda picture: ([writer, picture],), (start[0], begun)
+    )
 
 
 def build(source, program):
     """Compiles a native program. It is not linked statically: at its first exception a static one sorts the unwinder's tables, in five
-    million instructions that are no search. All symbols are found at the start, which is taken off."""
-    subprocess.run(['g++', '-std=c++17', '-O3', '-march=x86-64-v3', '-Wl,-z,now', '-w', '-o', program, source], check=True)
+    million instructions that are no search. All symbols are found at the start, which is taken off.
+    """
+    subprocess.run(
+        ['g++', '-std=c++17', '-O3', '-march=x86-64-v3', '-Wl,-z,now', '-w', '-o', program, source],
+        check=True,
+    )
 
 
 def main():

@@ -41,7 +41,18 @@ from statistics import median
 sys.dont_write_bytecode = True
 ROOT = Path(__file__).resolve().parent.parent
 sys.path.insert(0, str(ROOT / 'tests/references'))
-from others_plot import CERTIFY, CHECK, PROVE, VERIFY, by, drawn, of_solvers, print_tables, read_rows, write_rows  # noqa: E402
+from others_plot import (
+    CERTIFY,
+    CHECK,
+    PROVE,
+    VERIFY,
+    by,
+    drawn,
+    of_solvers,
+    print_tables,
+    read_rows,
+    write_rows,
+)  # noqa: E402
 from reference.faults import Fault  # noqa: E402
 from reference.lines import clues_of, line_of, names  # noqa: E402
 from reference.pictures import read_ppm  # noqa: E402
@@ -110,7 +121,13 @@ def clauses_of(task):
             clauses += [[-one, -two] for i, one in enumerate(cell) for two in cell[:i]]
     for line, (steps, last) in task.lines.items():
         clauses += line_clauses(task, of, line, steps, last)
-    clauses.append([-of(row, col, task.rows[row][col]) for row in range(task.height) for col in range(task.width)])
+    clauses.append(
+        [
+            -of(row, col, task.rows[row][col])
+            for row in range(task.height)
+            for col in range(task.width)
+        ]
+    )
     return number, clauses
 
 
@@ -122,7 +139,9 @@ def line_clauses(task, of, line, steps, last):
         front.append({to for (state, _), to in steps.items() if state in front[-1]})
     live = [set() for _ in range(length)] + [{last}]
     for i in range(length - 1, -1, -1):
-        live[i] = {state for (state, _), to in steps.items() if state in front[i] and to in live[i + 1]}
+        live[i] = {
+            state for (state, _), to in steps.items() if state in front[i] and to in live[i + 1]
+        }
     yield [of(line, 0, 0)]
     for i in range(length):
         row, col = task.cell(line, i)
@@ -141,7 +160,12 @@ def line_clauses(task, of, line, steps, last):
             yield [-of(line, i + 1, to)] + states
         yield [of(line, i, state) for state in live[i]]
         ordered = sorted(live[i])
-        yield from ([-of(line, i, one), -of(line, i, two)] for at, one in enumerate(ordered) for two in ordered[:at] if len(ordered) < 20)
+        yield from (
+            [-of(line, i, one), -of(line, i, two)]
+            for at, one in enumerate(ordered)
+            for two in ordered[:at]
+            if len(ordered) < 20
+        )
 
 
 def write_clauses(task, file):
@@ -161,17 +185,26 @@ def write_program(task, file):
     for line, (steps, last) in task.lines.items():
         axis, at = line
         facts.append(f'length({axis},{at},{task.length(line)}). last({axis},{at},{last}).')
-        facts += [f'next({axis},{at},{state},{colour},{to}).' for (state, colour), to in steps.items()]
-        facts += ['at({},{},{},{},{}).'.format(axis, at, i, *task.cell(line, i)) for i in range(task.length(line))]
+        facts += [
+            f'next({axis},{at},{state},{colour},{to}).' for (state, colour), to in steps.items()
+        ]
+        facts += [
+            'at({},{},{},{},{}).'.format(axis, at, i, *task.cell(line, i))
+            for i in range(task.length(line))
+        ]
     file.write_text(ASP + '\n'.join(facts) + '\n')
 
 
 def write_numbers(task, file):
     """Writes the task as numbers for others_gecode.cpp."""
-    words = [task.height, task.width, max(task.colours) + 1] + [colour for row in task.rows for colour in row]
+    words = [task.height, task.width, max(task.colours) + 1] + [
+        colour for row in task.rows for colour in row
+    ]
     for line in names(task.height, task.width):
         steps, last = task.lines[line]
-        words += [last, len(steps)] + [word for (state, colour), to in sorted(steps.items()) for word in (state, colour, to)]
+        words += [last, len(steps)] + [
+            word for (state, colour), to in sorted(steps.items()) for word in (state, colour, to)
+        ]
     file.write_text(' '.join(map(str, words)) + '\n')
 
 
@@ -190,10 +223,22 @@ class Limit:
 
     def run(self, words, text=None):
         """What a command prints, or None if the time is over; and its time."""
+
         def limited():
-            resource.setrlimit(resource.RLIMIT_CPU, (math.ceil(self.seconds), math.ceil(self.seconds) + 1))
+            resource.setrlimit(
+                resource.RLIMIT_CPU, (math.ceil(self.seconds), math.ceil(self.seconds) + 1)
+            )
+
         before = resource.getrusage(resource.RUSAGE_CHILDREN)
-        ended = subprocess.run(words, cwd=self.folder, input=text, capture_output=True, check=False, text=True, preexec_fn=limited)
+        ended = subprocess.run(
+            words,
+            cwd=self.folder,
+            input=text,
+            capture_output=True,
+            check=False,
+            text=True,
+            preexec_fn=limited,
+        )
         after = resource.getrusage(resource.RUSAGE_CHILDREN)
         # As many digits as the CSV has, so that the plot made again from it is the same.
         took = round(after.ru_utime + after.ru_stime - before.ru_utime - before.ru_stime, 4)
@@ -204,6 +249,7 @@ class Limit:
 
 def by_nonobench(program):
     """Asks for the verdict of a session."""
+
     def solve(task, limit, picture):
         printed, took = limit.run([program, 'work', str(picture)], 'verdict\n')
         if printed is None:
@@ -211,11 +257,13 @@ def by_nonobench(program):
         said = printed.splitlines()
         other = [['.abcdefghijklmno'.index(letter) for letter in row] for row in said[1:]]
         return ('unique' if said[0] == 'unique' else other), took
+
     return solve
 
 
 def by_clauses(words, unsatisfied):
     """Gives clauses to a solver that writes a model as `v` lines, or into a file."""
+
     def solve(task, limit, _):
         cells_of = write_clauses(task, limit.folder / 'clauses')
         (limit.folder / 'model').write_text('')
@@ -225,9 +273,18 @@ def by_clauses(words, unsatisfied):
         if unsatisfied in printed:
             return 'unique', took
         text = (limit.folder / 'model').read_text() + printed
-        true = [int(word) for line in text.splitlines() if line[:2] == 'v ' or line[:1].isdigit() or line[:1] == '-'
-                for word in line.lstrip('v ').split() if word.lstrip('-').isdigit()]
-        return rows_of_cells(task, {cells_of[v][:2]: cells_of[v][2] for v in true if v in cells_of}), took
+        true = [
+            int(word)
+            for line in text.splitlines()
+            if line[:2] == 'v ' or line[:1].isdigit() or line[:1] == '-'
+            for word in line.lstrip('v ').split()
+            if word.lstrip('-').isdigit()
+        ]
+        return (
+            rows_of_cells(task, {cells_of[v][:2]: cells_of[v][2] for v in true if v in cells_of}),
+            took,
+        )
+
     return solve
 
 
@@ -249,6 +306,7 @@ def by_answer_sets(task, limit, _):
 
 def by_gecode(program):
     """Asks the program of others_gecode.cpp."""
+
     def solve(task, limit, _):
         write_numbers(task, limit.folder / 'numbers')
         printed, took = limit.run([program, 'numbers'])
@@ -257,7 +315,10 @@ def by_gecode(program):
         if printed.startswith('unique'):
             return 'unique', took
         words = list(map(int, printed.split()))
-        return [words[row * task.width:(row + 1) * task.width] for row in range(task.height)], took
+        return [
+            words[row * task.width : (row + 1) * task.width] for row in range(task.height)
+        ], took
+
     return solve
 
 
@@ -272,7 +333,13 @@ def solvers(program, folder):
         found['gringo, clasp'] = by_answer_sets
     built = str(Path(folder) / 'gecode')
     source = str(ROOT / 'measure' / 'others_gecode.cpp')
-    if shutil.which('g++') and subprocess.run(['g++', '-O2', '-o', built, source, *GECODE], capture_output=True, check=False).returncode == 0:
+    if (
+        shutil.which('g++')
+        and subprocess.run(
+            ['g++', '-O2', '-o', built, source, *GECODE], capture_output=True, check=False
+        ).returncode
+        == 0
+    ):
         found['gecode'] = by_gecode(built)
     for name in ('minisat', 'cadical', 'gringo, clasp', 'gecode'):
         if name not in found:
@@ -324,22 +391,39 @@ class Naming:
     """The classes of pictures, and on which of them nonobench was improved."""
 
     def __init__(self, classes, tuned):
-        self.classes = [(name, patterns.split(',')) for name, _, patterns in (one.partition('=') for one in classes)]
+        self.classes = [
+            (name, patterns.split(','))
+            for name, _, patterns in (one.partition('=') for one in classes)
+        ]
         self.tuned = {file.resolve() for one in tuned for file in Path(one).rglob('*.ppm')}
 
     def of(self, picture):
         """What the rows say of a picture: its name, its class, and whether nonobench was improved on it."""
-        fits = (name for name, patterns in self.classes if any(fnmatch.fnmatch(picture.stem, one) for one in patterns))
-        return {'picture': picture.stem, 'class': next(fits, 'other'), 'tuned': 'yes' if picture.resolve() in self.tuned else ''}
+        fits = (
+            name
+            for name, patterns in self.classes
+            if any(fnmatch.fnmatch(picture.stem, one) for one in patterns)
+        )
+        return {
+            'picture': picture.stem,
+            'class': next(fits, 'other'),
+            'tuned': 'yes' if picture.resolve() in self.tuned else '',
+        }
 
 
 def kept_rows(earlier, own):
     """The earlier rows of a picture, whose row by nonobench is given. It is an error if they are missing, or if they disagree."""
     rows = earlier.get(own['picture'], [])
-    if not rows or any(str(row[key]) != str(own[key]) for row in rows for key in ('class', 'tuned', 'width', 'height', 'colours')):
+    if not rows or any(
+        str(row[key]) != str(own[key])
+        for row in rows
+        for key in ('class', 'tuned', 'width', 'height', 'colours')
+    ):
         raise SystemExit(f'{own["picture"]}: not in the earlier run')
     if len({row['answer'] for row in [own, *rows]} - {'open'}) > 1:
-        raise SystemExit(f'{own["picture"]}: they disagree: {own["answer"]}, earlier {[row["answer"] for row in rows]}')
+        raise SystemExit(
+            f'{own["picture"]}: they disagree: {own["answer"]}, earlier {[row["answer"] for row in rows]}'
+        )
     return rows
 
 
@@ -349,9 +433,22 @@ def arguments():
     parser.add_argument('program')
     parser.add_argument('folder', nargs='+')
     parser.add_argument('--seconds', type=float, default=10)
-    parser.add_argument('--others', help='the CSV of an earlier run, for the rows of the other solvers')
-    parser.add_argument('--class', dest='classes', action='append', default=[], help='NAME=PATTERN,..: pictures that are counted together')
-    parser.add_argument('--tuned', action='append', default=[], help='a folder of pictures on which nonobench was improved')
+    parser.add_argument(
+        '--others', help='the CSV of an earlier run, for the rows of the other solvers'
+    )
+    parser.add_argument(
+        '--class',
+        dest='classes',
+        action='append',
+        default=[],
+        help='NAME=PATTERN,..: pictures that are counted together',
+    )
+    parser.add_argument(
+        '--tuned',
+        action='append',
+        default=[],
+        help='a folder of pictures on which nonobench was improved',
+    )
     parser.add_argument('--csv', help='a file for the rows')
     parser.add_argument('--svg', help='a file for the plot')
     return parser.parse_args()
@@ -360,12 +457,20 @@ def arguments():
 def main():
     """Each picture by each solver."""
     asked = arguments()
-    program, naming, rows = str(Path(asked.program).resolve()), Naming(asked.classes, asked.tuned), []
+    program, naming, rows = (
+        str(Path(asked.program).resolve()),
+        Naming(asked.classes, asked.tuned),
+        [],
+    )
     with tempfile.TemporaryDirectory() as folder:
         limit = Limit(folder, asked.seconds)
         nothing = median(limit.run(['true'])[1] for _ in range(51))  # which all times include
         print(f'a process that does nothing: {1000 * nothing:.1f} ms', file=sys.stderr)
-        others = [row for row in of_solvers(read_rows(asked.others)) if row['program'] != 'nonobench'] if asked.others else []
+        others = (
+            [row for row in of_solvers(read_rows(asked.others)) if row['program'] != 'nonobench']
+            if asked.others
+            else []
+        )
         earlier = by('picture', others)
         found = {'nonobench': by_nonobench(program)} if asked.others else solvers(program, folder)
         for picture in sorted(file for one in asked.folder for file in Path(one).rglob('*.ppm')):
@@ -374,8 +479,14 @@ def main():
             except Fault as fault:
                 print(f'{picture.name}: left out, {fault.name}', file=sys.stderr)
                 continue
-            known = naming.of(picture) | {'width': task.width, 'height': task.height, 'colours': len(task.colours)}
-            done = [known | dict(zip(('program', 'answer', 'seconds', 'bytes'), row)) for row in done]
+            known = naming.of(picture) | {
+                'width': task.width,
+                'height': task.height,
+                'colours': len(task.colours),
+            }
+            done = [
+                known | dict(zip(('program', 'answer', 'seconds', 'bytes'), row)) for row in done
+            ]
             rows += done[:1] + (kept_rows(earlier, done[0]) if earlier else []) + done[1:]
     if asked.csv:
         write_rows(asked.csv, rows)

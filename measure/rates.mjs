@@ -1,9 +1,9 @@
-// The rates of the module for JavaScript, for measure/rates.py: node measure/rates.mjs MODULE PAIRS ROUNDS. PAIRS has pictures and
-// certificates, each pair behind their lengths. Prints how many checks, verdicts, and verdicts with certificates a second of
-// processor time are made.
-import { readFileSync } from 'node:fs';
-import { load } from '../web/nonobench.mjs';
-import { processorTime } from './figures.mjs';
+// The rates of the module for JavaScript, for measure/rates.py: node measure/rates.mjs MODULE PAIRS
+// ROUNDS. PAIRS has pictures and certificates, each pair behind their lengths. Prints how many
+// checks, verdicts, and verdicts with certificates a second of processor time are made.
+import {readFileSync} from 'node:fs';
+import {load} from '../web/nonobench.mjs';
+import {processorTime} from './figures.mjs';
 
 const [module, name, rounds] = process.argv.slice(2);
 const file = readFileSync(name), pairs = [];
@@ -26,7 +26,8 @@ function rate(ask) {
   let best = 0;
   for (let round = 0; round < rounds; round += 1) {
     const begun = processorTime();
-    for (const pair of pairs) if (!ask(...pair)) throw new Error('a pair is refused');
+    for (const pair of pairs)
+      if (!ask(...pair)) throw new Error('a pair is refused');
     best = Math.max(best, 1000 * pairs.length / (processorTime() - begun));
   }
   return best;

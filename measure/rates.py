@@ -30,7 +30,9 @@ SIDE, COLOURS = 20, 3
 def noise(rng):
     """A P3 text in which, of a hundred cells, 90 are no background."""
     cells = [rng.randrange(1, COLOURS) if rng.random() < 0.9 else 0 for _ in range(SIDE * SIDE)]
-    return f"P3\n{SIDE} {SIDE}\n255\n" + "".join(f"{k * 16} {255 - k * 16} 0\n" if k else "255 255 255\n" for k in cells)
+    return f"P3\n{SIDE} {SIDE}\n255\n" + "".join(
+        f"{k * 16} {255 - k * 16} 0\n" if k else "255 255 255\n" for k in cells
+    )
 
 
 def pairs_of(count):
@@ -48,7 +50,9 @@ def pairs_of(count):
 
 def write(pairs, file):
     """Puts pairs into a file, as the programs for C and JavaScript read them."""
-    file.write_bytes(b"".join(struct.pack("<II", *map(len, pair)) + b"".join(pair) for pair in pairs))
+    file.write_bytes(
+        b"".join(struct.pack("<II", *map(len, pair)) + b"".join(pair) for pair in pairs)
+    )
 
 
 def rate(pairs, ask):
@@ -76,7 +80,16 @@ def of_c(folder):
     if shutil.which("cc") is None:
         return None
     library = ROOT / "c" / "out" / "libnonobench.a"
-    words = ["cc", "-std=c11", "-O2", f"-I{ROOT / 'c'}", str(ROOT / "measure" / "rates.c"), str(library), "-o", str(folder / "rates")]
+    words = [
+        "cc",
+        "-std=c11",
+        "-O2",
+        f"-I{ROOT / 'c'}",
+        str(ROOT / "measure" / "rates.c"),
+        str(library),
+        "-o",
+        str(folder / "rates"),
+    ]
     subprocess.run(words, check=True)
     return told([str(folder / "rates"), str(folder / "pairs"), str(ROUNDS)])
 
@@ -86,27 +99,41 @@ def of_javascript(folder):
     module = os.environ.get("WASM", str(ROOT / "web" / "out" / "nonobench.wasm"))
     if shutil.which("node") is None or not Path(module).is_file():
         return None
-    return told(["node", str(ROOT / "measure" / "rates.mjs"), module, str(folder / "pairs"), str(ROUNDS)])
+    return told(
+        ["node", str(ROOT / "measure" / "rates.mjs"), module, str(folder / "pairs"), str(ROUNDS)]
+    )
 
 
 def told(words):
     """The rates that a program prints."""
-    return [float(word) for word in subprocess.run(words, check=True, capture_output=True, text=True).stdout.split()]
+    return [
+        float(word)
+        for word in subprocess.run(words, check=True, capture_output=True, text=True).stdout.split()
+    ]
 
 
 def main():
     pairs, others = pairs_of(int(sys.argv[1]) if len(sys.argv) > 1 else 500)
-    print(f"{len(pairs)} pictures of {SIDE} by {SIDE} in {COLOURS} colours ({others} more have several solutions); "
-          f"load {os.getloadavg()[0]:.1f}; a second of processor time:")
+    print(
+        f"{len(pairs)} pictures of {SIDE} by {SIDE} in {COLOURS} colours ({others} more have several solutions); "
+        f"load {os.getloadavg()[0]:.1f}; a second of processor time:"
+    )
     print(f"{'':12}{'checks':>10}{'verdicts':>10}{'with certificates':>19}")
     with tempfile.TemporaryDirectory() as name:
         folder = Path(name)
         write(pairs, folder / "pairs")
-        for name, rates in (("C", of_c(folder)), ("Python", of_python(pairs)), ("JavaScript", of_javascript(folder))):
+        for name, rates in (
+            ("C", of_c(folder)),
+            ("Python", of_python(pairs)),
+            ("JavaScript", of_javascript(folder)),
+        ):
             if rates is None:
                 print(f"{name:12} left out, since a tool or the module is missing")
             else:
-                print(f"{name:12}" + "".join(f"{value:{width}.0f}" for value, width in zip(rates, (10, 10, 19))))
+                print(
+                    f"{name:12}"
+                    + "".join(f"{value:{width}.0f}" for value, width in zip(rates, (10, 10, 19)))
+                )
 
 
 if __name__ == "__main__":

@@ -1,34 +1,34 @@
 // Starts the page.
 
-import { $, hush, say } from './base/elements.js';
-import { on } from './base/events.js';
-import { sheet, startSheet } from './draw/sheet.js';
-import { showExportPanel, startExporting } from './export/exporting.js';
-import { startPalettes } from './import/palettes.js';
-import { hearFiles } from './import/taking.js';
-import { startTracing } from './import/tracing.js';
-import { keep } from './library/keep.js';
-import { startSaving } from './library/saving.js';
-import { startPlay } from './play/play.js';
-import { openAgain, startLanguage } from './start/language.js';
-import { startLinked } from './start/linked.js';
-import { showStart, startStart } from './start/start.js';
-import { DIRECTION, LANGUAGE, phrase } from './texts/phrase.js';
-import { actionButton, actions, hearKeys, keyText, makeMenus } from './view/actions.js';
-import { addColourActions, addEditActions, addPictureActions, addViewActions } from './view/commands.js';
-import { startCut } from './view/cut.js';
-import { startFixing } from './view/fixing.js';
-import { startGrading } from './view/grading.js';
-import { cursor, gridCell, makeGrid } from './view/grid.js';
-import { addHelpActions } from './view/help.js';
-import { makeMinimap } from './view/minimap.js';
-import { makePalette } from './view/palette.js';
-import { keepStill, makeCellPanel, makeLinesPanel, makeToolBar } from './view/panels.js';
-import { hearPointers } from './view/pointer.js';
-import { startSelection } from './view/select.js';
-import { showVerdictPanel, startVerdict } from './view/verdict.js';
-import { startVision } from './view/vision.js';
-import { showWhyPanel, startWhy } from './view/why.js';
+import {$, hush, say} from './base/elements.js';
+import {on} from './base/events.js';
+import {sheet, startSheet} from './draw/sheet.js';
+import {showExportPanel, startExporting} from './export/exporting.js';
+import {startPalettes} from './import/palettes.js';
+import {hearFiles} from './import/taking.js';
+import {startTracing} from './import/tracing.js';
+import {keep} from './library/keep.js';
+import {startSaving} from './library/saving.js';
+import {startPlay} from './play/play.js';
+import {openAgain, startLanguage} from './start/language.js';
+import {startLinked} from './start/linked.js';
+import {showStart, startStart} from './start/start.js';
+import {DIRECTION, LANGUAGE, phrase} from './texts/phrase.js';
+import {actionButton, actions, hearKeys, keyText, makeMenus} from './view/actions.js';
+import {addColourActions, addEditActions, addPictureActions, addViewActions} from './view/commands.js';
+import {startCut} from './view/cut.js';
+import {startFixing} from './view/fixing.js';
+import {startGrading} from './view/grading.js';
+import {cursor, gridCell, makeGrid} from './view/grid.js';
+import {addHelpActions} from './view/help.js';
+import {makeMinimap} from './view/minimap.js';
+import {makePalette} from './view/palette.js';
+import {keepStill, makeCellPanel, makeLinesPanel, makeToolBar} from './view/panels.js';
+import {hearPointers} from './view/pointer.js';
+import {startSelection} from './view/select.js';
+import {showVerdictPanel, startVerdict} from './view/verdict.js';
+import {startVision} from './view/vision.js';
+import {showWhyPanel, startWhy} from './view/why.js';
 
 document.body.classList.add('starting');
 nameParts();
@@ -79,19 +79,39 @@ keepOffline();
 // Parts of the page, by their names for who hears it.
 function nameParts() {
   const names = {
-    menus: phrase('main.menus'), quick: phrase('main.historyView'), start: phrase('main.start'), work: phrase('main.picture'), tools: phrase('main.tools'), stage: phrase('main.pictureClues'), fix: phrase('view.fixTitle'), panels: phrase('main.whatBenchSays'),
-    audit: phrase('import.verdict'), colours: phrase('view.colours'), out: phrase('export.saveExport'), cell: phrase('view.cell'), lines: phrase('view.rowsColumns'),
+    menus: phrase('main.menus'),
+    quick: phrase('main.historyView'),
+    start: phrase('main.start'),
+    work: phrase('main.picture'),
+    tools: phrase('main.tools'),
+    stage: phrase('main.pictureClues'),
+    fix: phrase('view.fixTitle'),
+    panels: phrase('main.whatBenchSays'),
+    audit: phrase('import.verdict'),
+    colours: phrase('view.colours'),
+    out: phrase('export.saveExport'),
+    cell: phrase('view.cell'),
+    lines: phrase('view.rowsColumns'),
   };
   for (const [id, name] of Object.entries(names)) $(id).setAttribute('aria-label', name);
-  Object.assign(document.documentElement, { lang: LANGUAGE, dir: DIRECTION });
+  Object.assign(document.documentElement, {lang: LANGUAGE, dir: DIRECTION});
   document.body.dataset.drop = phrase('main.dropOpen');
 }
 
 // ---- what the whole page does with the bench
 
 function makeQuickButtons() {
-  for (const [id, name, short] of [['undo', phrase('view.undo'), '↶'], ['redo', phrase('view.redo'), '↷'], ['zoom-out', '−'], ['fit', phrase('main.fit')], ['zoom-in', '+']]) {
-    const button = actionButton(actions.get(id), { 'aria-label': actions.get(id).name, title: `${actions.get(id).name} (${keyText(actions.get(id).key.split(' ')[0])})`, 'data-short': short });
+  for (const [id, name, short] of [
+           ['undo', phrase('view.undo'), '↶'],
+           ['redo', phrase('view.redo'), '↷'],
+           ['zoom-out', '−'],
+           ['fit', phrase('main.fit')],
+           ['zoom-in', '+']]) {
+    const button = actionButton(actions.get(id), {
+      'aria-label': actions.get(id).name,
+      title: `${actions.get(id).name} (${keyText(actions.get(id).key.split(' ')[0])})`,
+      'data-short': short
+    });
     button.textContent = name;
     $('quick').append(button);
   }
@@ -99,19 +119,24 @@ function makeQuickButtons() {
 
 // A served page is kept by the browser, so that it opens without a network.
 function keepOffline() {
-  if (document.querySelector('link[rel="manifest"]')) navigator.serviceWorker?.register('offline.js').catch(() => {});
+  if (document.querySelector('link[rel="manifest"]'))
+    navigator.serviceWorker?.register('offline.js').catch(() => {});
 }
 
 function hearBench() {
   on('opened', () => {
-    Object.assign(cursor, { row: 0, col: 0 });
-    gridCell().focus({ preventScroll: true }); // what was used on the start screen is gone: the arrows go on here
+    Object.assign(cursor, {row: 0, col: 0});
+    gridCell().focus({preventScroll: true}
+    );  // what was used on the start screen is gone: the arrows go on here
   });
   on('shown', () => {
-    for (const id of ['undo', 'redo']) $('quick').querySelector(`[data-action="${id}"]`).disabled = !actions.get(id).can();
+    for (const id of ['undo', 'redo'])
+      $('quick').querySelector(`[data-action="${id}"]`).disabled = !actions.get(id).can();
   });
   on('stroke', hush);
   on('busy', (is) => sheet.stage.setAttribute('aria-busy', is));
   on('recovered', () => say(phrase('main.engineRestartedNothingLost')));
-  on('lost', (fault) => say(phrase('main.engineCouldNotStarted', { text: fault.text ?? fault.message }), 'alarm'));
+  on('lost',
+     (fault) =>
+         say(phrase('main.engineCouldNotStarted', {text: fault.text ?? fault.message}), 'alarm'));
 }

@@ -36,11 +36,21 @@ def build_wheel(wheel_directory, config_settings=None, metadata_directory=None):
     title = "{name}-{version}".format(**project)
     readme = (HERE / "README.md").read_text(encoding="utf-8")
     classifiers = (f"Classifier: {it}\n" for it in project["classifiers"])
-    more = "".join([*classifiers, *_extra_lines(project["extras"])]) + "Description-Content-Type: text/markdown\n\n"
+    more = (
+        "".join([*classifiers, *_extra_lines(project["extras"])])
+        + "Description-Content-Type: text/markdown\n\n"
+    )
     files[f"{title}.dist-info/METADATA"] = f"{METADATA.format(**project)}{more}{readme}".encode()
-    files[f"{title}.dist-info/entry_points.txt"] = f"[console_scripts]\n{project['scripts']}\n".encode()
+    files[
+        f"{title}.dist-info/entry_points.txt"
+    ] = f"[console_scripts]\n{project['scripts']}\n".encode()
     shared = [file for file in sorted((HERE / SHARED).rglob("*")) if file.is_file()]
-    files.update({f"{title}.data/data/{file.relative_to(HERE).as_posix()}": file.read_bytes() for file in shared})
+    files.update(
+        {
+            f"{title}.data/data/{file.relative_to(HERE).as_posix()}": file.read_bytes()
+            for file in shared
+        }
+    )
     if (HERE / "NOTICES").is_file():
         files[f"{title}.dist-info/NOTICES"] = (HERE / "NOTICES").read_bytes()
     files[f"{title}.dist-info/WHEEL"] = TAGS.format(str(is_pure).lower(), tag).encode()
@@ -56,11 +66,18 @@ def build_wheel(wheel_directory, config_settings=None, metadata_directory=None):
 def _project():
     """What pyproject.toml says of the package. Python reads that format from 3.11 on, so its lines are looked for."""
     text = (HERE / "pyproject.toml").read_text(encoding="utf-8")
-    project = dict(re.findall(r'^(name|version|description|requires-python) = "(.*)"$', text, re.MULTILINE))
+    project = dict(
+        re.findall(r'^(name|version|description|requires-python) = "(.*)"$', text, re.MULTILINE)
+    )
     tables = dict(re.findall(r"^\[([\w.-]+)\]\n((?:(?!\[).+\n)*)", text, re.MULTILINE))
-    extras = re.findall(r"^([\w-]+) = \[(.*)\]$", tables.get("project.optional-dependencies", ""), re.MULTILINE)
+    extras = re.findall(
+        r"^([\w-]+) = \[(.*)\]$", tables.get("project.optional-dependencies", ""), re.MULTILINE
+    )
     scripts = re.findall(r'^([\w-]+) = "(.*)"$', tables.get("project.scripts", ""), re.MULTILINE)
-    listed = {name: re.findall(r'"([^"]+)"', words) for name, words in re.findall(r"^(\w+) = \[([^]]*)\]$", tables["project"], re.MULTILINE)}
+    listed = {
+        name: re.findall(r'"([^"]+)"', words)
+        for name, words in re.findall(r"^(\w+) = \[([^]]*)\]$", tables["project"], re.MULTILINE)
+    }
     return {
         **project,
         **listed,
@@ -84,9 +101,15 @@ def _extra_lines(extras):
 def _package():
     """The package's files by their places: the library is beside them, or c/build left it, or the system has it."""
     sources = HERE / "src" / "nonobench"
-    files = [file for file in sorted(sources.rglob("*")) if file.suffix in CARRIED or file.name == "py.typed"]
+    files = [
+        file
+        for file in sorted(sources.rglob("*"))
+        if file.suffix in CARRIED or file.name == "py.typed"
+    ]
     packed = {file.relative_to(HERE / "src").as_posix(): file.read_bytes() for file in files}
-    binaries = [place for place in (sources / name for name in (*LIBRARIES, PROGRAM)) if place.is_file()]
+    binaries = [
+        place for place in (sources / name for name in (*LIBRARIES, PROGRAM)) if place.is_file()
+    ]
     built = HERE.parent / "c" / "out" / LIBRARIES[0]
     if not binaries and built.is_file():
         binaries = [built]
@@ -95,7 +118,9 @@ def _package():
 
 def _entry(place):
     """The place of a file in the wheel: readable by all, and of a day that is always the same."""
-    entry = zipfile.ZipInfo(place, time.gmtime(int(os.environ.get("SOURCE_DATE_EPOCH", FIRST_DAY)))[:6])
+    entry = zipfile.ZipInfo(
+        place, time.gmtime(int(os.environ.get("SOURCE_DATE_EPOCH", FIRST_DAY)))[:6]
+    )
     entry.compress_type = zipfile.ZIP_DEFLATED
     entry.create_system = 3
     entry.external_attr = 0o100644 << 16

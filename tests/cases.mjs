@@ -1,14 +1,28 @@
-// What tests of the module in node share: the lines of the files in tests/cases, and calls that must end with a Fault.
+// What tests of the module in node share: the lines of the files in tests/cases, and calls that
+// must end with a Fault.
 import assert from 'node:assert/strict';
-import { readFileSync } from 'node:fs';
+import {readFileSync} from 'node:fs';
 
-const SAMPLES = { '.': '255 255 255', a: '0 0 0', b: '255 0 0' };
-const SIGNS = { n: 10, r: 13, t: 9, v: 11, f: 12, '\\': 92 };
+const SAMPLES = {
+  '.': '255 255 255',
+  a: '0 0 0',
+  b: '255 0 0'
+};
+const SIGNS = {
+  n: 10,
+  r: 13,
+  t: 9,
+  v: 11,
+  f: 12,
+  '\\': 92
+};
 
 /** The lines of a file with the extension .case: each what is asked, and the answer. */
 export function casesOf(kind) {
   const lines = readFileSync(new URL(`cases/${kind}.case`, import.meta.url), 'utf8').split('\n');
-  return lines.filter((line) => line !== '' && !line.startsWith('#')).map((line) => /^([^]*) => (.*)$/.exec(line).slice(1));
+  return lines.filter(
+                  (line) => line !== '' && !line.startsWith('#')
+  ).map((line) => /^([^]*) => (.*)$/.exec(line).slice(1));
 }
 
 /** The bytes of a text, whose signs are those of printf. */
@@ -20,10 +34,14 @@ export function bytesOf(text) {
   }));
 }
 
-/** The P3 text of a picture of white, black (a) and red (b) cells, of its rows with `/` between them. */
+/**
+ * The P3 text of a picture of white, black (a) and red (b) cells, of its rows with `/` between
+ * them.
+ */
 export function pictureOf(cells) {
   const rows = cells.split('/');
-  return `P3\n${rows[0].length} ${rows.length}\n255\n${[...rows.join('')].map((cell) => SAMPLES[cell]).join('\n')}\n`;
+  return `P3\n${rows[0].length} ${rows.length}\n255\n${
+          [...rows.join('')].map((cell) => SAMPLES[cell]).join('\n')}\n`;
 }
 
 /** The picture and the certificate of a case, which has a blank between them. */
@@ -33,19 +51,30 @@ export function pairOf(asked) {
 }
 
 // Whether an answer is no refusal, and the text that goes with it.
-const answerOf = (answer) => (answer.startsWith('! ') ? [false, answer.slice(2)] : [true, `${answer}\n`]);
+const answerOf = (answer) =>
+    (answer.startsWith('! ') ? [false, answer.slice(2)] : [true, `${answer}\n`]);
 
 // The cells of a list in a case.
-const placesOf = (word) => (word === '-' ? [] : word.split(';').map((place) => place.split(',').map(Number)));
+const placesOf = (word) =>
+    (word === '-' ? [] : word.split(';').map((place) => place.split(',').map(Number)));
 
-/** Checks that a call which checks a pair answers as published.case says: it gets a picture, a certificate and the published cells. */
+/**
+ * Checks that a call which checks a pair answers as published.case says: it gets a picture, a
+ * certificate and the published cells.
+ */
 export function mustCheckPublished(check) {
   const cases = casesOf('published');
   for (const [asked, answer] of cases) {
     const [cells, published, ...lines] = asked.split(' '), [given, ...told] = answer.split(' ');
     const [accepted, text] = answerOf(told.join(' '));
-    const said = check(pictureOf(cells), bytesOf(lines.join(' ')), published === 'any' ? published : placesOf(published));
-    assert.deepEqual(said, { accepted, status: accepted ? 0 : 1, text, givens: placesOf(given) }, asked);
+    const said = check(
+        pictureOf(cells),
+        bytesOf(lines.join(' ')),
+        published === 'any' ? published : placesOf(published)
+    );
+    assert.deepEqual(
+        said, {accepted, status: accepted ? 0 : 1, text, givens: placesOf(given)}, asked
+    );
   }
   assert.ok(cases.length > 30, `${cases.length}`);
 }
@@ -55,7 +84,7 @@ export function mustCheckForms(check) {
   for (const kind of ['certificates', 'lemmas']) {
     const cases = casesOf(kind);
     for (const [asked, answer] of cases) {
-      const { accepted, text } = check(...pairOf(asked));
+      const {accepted, text} = check(...pairOf(asked));
       assert.deepEqual([accepted, text], answerOf(answer), asked);
     }
     assert.ok(cases.length > 40, `${cases.length}`);
@@ -73,12 +102,15 @@ export function faultBy(Fault, call) {
   return assert.fail('nothing was thrown');
 }
 
-/** Refuses each growth of an engine's memory in turn while a call runs, which must say so: its answer at last, and how many were refused. */
+/**
+ * Refuses each growth of an engine's memory in turn while a call runs, which must say so: its
+ * answer at last, and how many were refused.
+ */
 export function refusedInTurn(engine, call) {
-  for (let nth = 1; ; nth += 1) {
+  for (let nth = 1;; nth += 1) {
     engine.refuse(nth);
     try {
-      return { answer: call(), refused: nth - 1 };
+      return {answer: call(), refused: nth - 1};
     } catch (fault) {
       assert.deepEqual([fault.kind, fault.text], ['memory', 'memory'], `${nth}`);
     } finally {

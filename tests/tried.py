@@ -90,13 +90,20 @@ def changed_crates():
         return None
     now = engine_now()
     return sorted(
-        {path.split('/')[1] for path in known.keys() | now.keys() if path != VERSION and known.get(path) != now.get(path)}
+        {
+            path.split('/')[1]
+            for path in known.keys() | now.keys()
+            if path != VERSION and known.get(path) != now.get(path)
+        }
     )
 
 
 def engine_now():
     """The files of the engine with what git calls their contents."""
-    return {place.relative_to(ROOT).as_posix(): _git_id(place) for place in ROOT.glob('crates/*/src/**/*.rt')}
+    return {
+        place.relative_to(ROOT).as_posix(): _git_id(place)
+        for place in ROOT.glob('crates/*/src/**/*.rt')
+    }
 
 
 def _git_id(place):
@@ -110,15 +117,23 @@ def _sources_of_release():
     dist/README.md names."""
     listed = ROOT / 'dist' / 'SOURCES'
     if listed.exists():
-        return {path: name for name, path in (line.split() for line in listed.read_text().splitlines())}
-    tree = re.search(r'^- crates: ([0-9a-f]{40})$', (ROOT / 'dist' / 'README.md').read_text(), re.MULTILINE)
+        return {
+            path: name for name, path in (line.split() for line in listed.read_text().splitlines())
+        }
+    tree = re.search(
+        r'^- crates: ([0-9a-f]{40})$', (ROOT / 'dist' / 'README.md').read_text(), re.MULTILINE
+    )
     words = ['git', '-C', str(ROOT), 'ls-tree', '-r', tree[1] if tree else 'none']
     try:
         said = subprocess.run(words, capture_output=True, text=True, check=True).stdout
     except (OSError, subprocess.CalledProcessError):
         return None
     lines = (line.split('\t') for line in said.splitlines())
-    return {f'crates/{path}': about.split()[2] for about, path in lines if re.fullmatch(r'\w+/src/.*\.rt', path)}
+    return {
+        f'crates/{path}': about.split()[2]
+        for about, path in lines
+        if re.fullmatch(r'\w+/src/.*\.rt', path)
+    }
 
 
 def once(place, make):
@@ -135,7 +150,9 @@ def once(place, make):
             else:
                 new.rename(place)
     if failed.exists() and 'skipped: ' in failed.read_text():
-        pytest.skip(failed.read_text().strip().splitlines()[-1])  # a tool is missing, and the build has said which
+        pytest.skip(
+            failed.read_text().strip().splitlines()[-1]
+        )  # a tool is missing, and the build has said which
     if failed.exists():
         pytest.fail(f'{place.name} was not made: {failed.read_text()}')
     return place
@@ -196,7 +213,9 @@ def ended(words, text=b'', cwd=None, **streams):
     """Runs a program on a text, or on other streams, and gives how it ended."""
     given = {} if 'stdin' in streams else {'input': as_bytes(text)}
     run = subprocess.run(
-        [os.fspath(word) for word in words], cwd=cwd, **{'stdout': subprocess.PIPE, 'stderr': subprocess.PIPE, **given, **streams}
+        [os.fspath(word) for word in words],
+        cwd=cwd,
+        **{'stdout': subprocess.PIPE, 'stderr': subprocess.PIPE, **given, **streams},
     )
     return Ended(run.returncode, run.stdout or b'', run.stderr or b'')
 
@@ -217,7 +236,10 @@ def passes(words, cwd=ROOT, env=None, seconds=3000, **more):
     if run.returncode == 77:
         pytest.skip(said.strip().splitlines()[-1])
     if run.returncode != 0:
-        pytest.fail(f'{" ".join(map(str, words))} ended with {run.returncode}:\n{said[-6000:]}', pytrace=False)
+        pytest.fail(
+            f'{" ".join(map(str, words))} ended with {run.returncode}:\n{said[-6000:]}',
+            pytrace=False,
+        )
     return said
 
 
@@ -243,20 +265,29 @@ def clean_env(before=None, **more):
     """What somebody has who has nothing but the package; `before` is a folder of further tools."""
     folder, _ = _clean_folder()
     path = ':'.join(str(place) for place in (before, folder, '/usr/bin', '/bin') if place)
-    plain = {'PATH': path, 'HOME': folder / 'home', 'LANG': 'C.UTF-8', 'npm_config_update_notifier': 'false'}
+    plain = {
+        'PATH': path,
+        'HOME': folder / 'home',
+        'LANG': 'C.UTF-8',
+        'npm_config_update_notifier': 'false',
+    }
     return {name: str(value) for name, value in {**plain, **more}.items()}
 
 
 def clean(words, cwd=None, before=None, **env):
     """Runs a command as somebody would who has nothing but the package."""
     folder, alone = _clean_folder()
-    return ended([*alone, *words], cwd=cwd or folder, env=clean_env(before, **env), stdin=subprocess.DEVNULL)
+    return ended(
+        [*alone, *words], cwd=cwd or folder, env=clean_env(before, **env), stdin=subprocess.DEVNULL
+    )
 
 
 def node_tests(request, file, env):
     """Runs a file of tests in node; what it leaves out is told in the end."""
     needs('node')
-    said = passes(['node', '--test-reporter=tap', file], env=env)  # without --test, which would run it in a process of its own
+    said = passes(
+        ['node', '--test-reporter=tap', file], env=env
+    )  # without --test, which would run it in a process of its own
     assert re.search(r'(?m)^# pass [1-9]|^# skipped [1-9]', said), 'it has no tests'
     for why in re.findall(r'(?m)^ *ok .* # SKIP (.+)$', said):
         request.node.user_properties.append(('left out', why))
@@ -264,10 +295,24 @@ def node_tests(request, file, env):
 
 def dumped(url, home, run_by):
     """What stands in a page of headless Chromium in the end; `clean` runs it without a network, and `ended` with one."""
-    found = next((shutil.which(name) for name in ('chromium', 'chromium-browser', 'google-chrome') if shutil.which(name)), None)
+    found = next(
+        (
+            shutil.which(name)
+            for name in ('chromium', 'chromium-browser', 'google-chrome')
+            if shutil.which(name)
+        ),
+        None,
+    )
     if not found:
         pytest.skip('there is no Chromium')
-    words = ['--headless', '--no-sandbox', '--disable-gpu', '--virtual-time-budget=10000', f'--user-data-dir={home}', '--dump-dom']
+    words = [
+        '--headless',
+        '--no-sandbox',
+        '--disable-gpu',
+        '--virtual-time-budget=10000',
+        f'--user-data-dir={home}',
+        '--dump-dom',
+    ]
     run = run_by(['timeout', '600', found, *words, url])
     assert run.status == 0, run
     return run.wrote.decode()

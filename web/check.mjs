@@ -1,13 +1,15 @@
-// The checker alone as a module of JavaScript, without any search: whether a certificate proves that a picture is the only solution. It
-// runs in browsers and in node from version 18 on. web/build puts what it imports into it.
+// The checker alone as a module of JavaScript, without any search: whether a certificate proves
+// that a picture is the only solution. It runs in browsers and in node from version 18 on.
+// web/build puts what it imports into it.
 //
-//     const checker = await load(bytes)                          // the bytes of nonobench-check.wasm
-//     checker.check(picture, certificate, {givens: [[1, 1]]})    // {accepted, status, text, givens}
-//     checker.flaws(picture, {background: '0,0,0'})              // such as ['blank', 'alike a b']
-//     checker.version                                            // as `nonobench --version` prints it after the name
-import { backgroundOf, checkedOf, Fault, inputOf, own, publishedOf, Runs } from './nonobench.mjs';
+//     const checker = await load(bytes)                          // the bytes of
+//     nonobench-check.wasm checker.check(picture, certificate, {givens: [[1, 1]]})    // {accepted,
+//     status, text, givens} checker.flaws(picture, {background: '0,0,0'})              // such as
+//     ['blank', 'alike a b'] checker.version                                            // as
+//     `nonobench --version` prints it after the name
+import {backgroundOf, checkedOf, Fault, inputOf, own, publishedOf, Runs} from './nonobench.mjs';
 
-export { Fault };
+export {Fault};
 
 const DONE = 0;
 const REFUSED = 1;
@@ -26,7 +28,8 @@ const NONE = new Uint16Array(0);
 function samplesOf(options) {
   const word = backgroundOf(options);
   const words = word === '' ? [] : word.split(','), samples = words.map(Number);
-  if (words.some((digits) => digits.length > 5) || samples.some((sample) => sample > 65535)) throw new Fault('open', 'background must be R,G,B');
+  if (words.some((digits) => digits.length > 5) || samples.some((sample) => sample > 65535))
+    throw new Fault('open', 'background must be R,G,B');
   return Uint16Array.from(samples);
 }
 
@@ -43,38 +46,53 @@ class Checker {
   }
 
   /**
-   * Checks a certificate of a picture, in any of its forms, and answers the program's text and status: 0 if it is accepted. `givens`
-   * are the cells that are published, [row, column] each, or a file with a line `given R C` for each; by default none. A certificate
-   * that names another given is refused with the text `certificate UnpublishedGiven at line N`. The answer has the givens that the
-   * certificate names, if its proof is right. 'any' accepts whatever it names, for a site that then publishes these cells.
+   * Checks a certificate of a picture, in any of its forms, and answers the program's text and
+   * status: 0 if it is accepted. `givens` are the cells that are published, [row, column] each, or
+   * a file with a line `given R C` for each; by default none. A certificate that names another
+   * given is refused with the text `certificate UnpublishedGiven at line N`. The answer has the
+   * givens that the certificate names, if its proof is right. 'any' accepts whatever it names, for
+   * a site that then publishes these cells.
    */
   check(picture, certificate, options = {}) {
     const samples = samplesOf(options), published = publishedOf(own(options, 'givens'));
-    const cert = inputOf(certificate); // what is checked here, and what the givens are read of
+    const cert = inputOf(certificate);  // what is checked here, and what the givens are read of
     const files = [inputOf(picture), cert, ...(published === null ? [] : [inputOf(published)])];
-    const call = published === null ? this.#calls.nonocheck_check : this.#calls.nonocheck_check_published;
-    const { status, out } = this.#lend(files, samples, ROOM, call);
+    const call =
+        published === null ? this.#calls.nonocheck_check : this.#calls.nonocheck_check_published;
+    const {status, out} = this.#lend(files, samples, ROOM, call);
     if (status !== DONE && status !== REFUSED) this.#refuse(status, 'background must be R,G,B');
     return checkedOf(status, textOf(out), cert);
   }
 
   /**
-   * The flaws of a picture that show without a search, as `nonobench assess` names them: 'blank', 'background' where one is passed that
-   * no cell has, and 'alike A B' for colours by their letters. Throws a Fault if the picture is refused.
+   * The flaws of a picture that show without a search, as `nonobench assess` names them: 'blank',
+   * 'background' where one is passed that no cell has, and 'alike A B' for colours by their
+   * letters. Throws a Fault if the picture is refused.
    */
   flaws(picture, options = {}) {
     const samples = samplesOf(options), file = inputOf(picture), found = [];
-    const { status, out } = this.#lend([file], samples, PAIRS + 2, (at, size, background, count, to) =>
-      this.#calls.nonocheck_flaws(at, size, background, count, to, to + 1n, to + 2n, BigInt(PAIRS)));
+    const {status, out} = this.#lend(
+        [file],
+        samples,
+        PAIRS + 2,
+        (at, size, background, count, to) => this.#calls.nonocheck_flaws(
+            at, size, background, count, to, to + 1n, to + 2n, BigInt(PAIRS)
+        )
+    );
     if (status !== DONE) this.#refuse(status, this.check(file, '', options).text);
     ['blank', 'background'].forEach((name, at) => out[at] && found.push(name));
-    for (let at = 2; out[at + 1] > 0; at += 2) found.push(`alike ${LETTERS[out[at]]} ${LETTERS[out[at + 1]]}`);
+    for (let at = 2; out[at + 1] > 0; at += 2)
+      found.push(`alike ${LETTERS[out[at]]} ${LETTERS[out[at + 1]]}`);
     return found;
   }
 
   /** The version of the module, as the program prints it after its name. */
   get version() {
-    return textOf(this.#lend([], NONE, ROOM, (_at, _count, out, room) => this.#calls.nonocheck_version(out, room)).out);
+    return textOf(
+        this.#lend(
+                [], NONE, ROOM, (_at, _count, out, room) => this.#calls.nonocheck_version(out, room)
+        ).out
+    );
   }
 
   /** For tests: lets the nth growth of memory from now on be refused; 0 for none. */
@@ -91,7 +109,8 @@ class Checker {
     throw status === MEMORY ? new Fault('memory', 'memory') : new Fault('open', text);
   }
 
-  // Calls with files, a background and some room, all in one block of the module's memory: the status, and what was put out.
+  // Calls with files, a background and some room, all in one block of the module's memory: the
+  // status, and what was put out.
   #lend(files, samples, room, call) {
     const size = files.reduce((sum, bytes) => sum + bytes.length, FRONT + room);
     const block = this.#runs.of(() => this.#calls.malloc(BigInt(size)));
@@ -105,8 +124,9 @@ class Checker {
         lent.push(next, bytes.length);
         next += bytes.length;
       }
-      const status = this.#runs.of(() => call(...[...lent, at, samples.length, at + FRONT, room].map(BigInt)));
-      return { status, out: new Uint8Array(this.#calls.memory.buffer, at + FRONT, room).slice() };
+      const status =
+          this.#runs.of(() => call(...[...lent, at, samples.length, at + FRONT, room].map(BigInt)));
+      return {status, out: new Uint8Array(this.#calls.memory.buffer, at + FRONT, room).slice()};
     } finally {
       if (!this.#runs.hasEnded) this.#calls.free(block);
     }
@@ -115,6 +135,6 @@ class Checker {
 
 /** Makes a checker of the bytes of nonobench-check.wasm. */
 export async function load(bytes) {
-  const { instance } = await WebAssembly.instantiate(bytes, {});
+  const {instance} = await WebAssembly.instantiate(bytes, {});
   return new Checker(instance);
 }

@@ -1,27 +1,37 @@
-// Joins the page's modules and the module of WebAssembly into one HTML file, and lays the same out as a folder for a site:
-// join.mjs ROOT FOLDER [ENTRY]. FOLDER has nonobench.wasm; ENTRY is the page's first module, page/main.js where none is named.
-// Nothing of the time or of paths goes in, so two builds of one commit by one esbuild have the same bytes. Without esbuild it
-// ends with 77, and with a page that is too long with 1.
-import { execFileSync, spawnSync } from 'node:child_process';
-import { createHash } from 'node:crypto';
-import { existsSync, mkdirSync, readFileSync, writeFileSync, copyFileSync, rmSync } from 'node:fs';
-import { join } from 'node:path';
-import { gzipSync } from 'node:zlib';
-import { signsOf } from '../page/engine/signs.js';
-import { limitsOf } from './limits.mjs';
-import { DE } from '../page/texts/de.js';
-import { EN } from '../page/texts/en.js';
-import { FR } from '../page/texts/fr.js';
+// Joins the page's modules and the module of WebAssembly into one HTML file, and lays the same out
+// as a folder for a site: join.mjs ROOT FOLDER [ENTRY]. FOLDER has nonobench.wasm; ENTRY is the
+// page's first module, page/main.js where none is named. Nothing of the time or of paths goes in,
+// so two builds of one commit by one esbuild have the same bytes. Without esbuild it ends with 77,
+// and with a page that is too long with 1.
+import {execFileSync, spawnSync} from 'node:child_process';
+import {createHash} from 'node:crypto';
+import {existsSync, mkdirSync, readFileSync, writeFileSync, copyFileSync, rmSync} from 'node:fs';
+import {join} from 'node:path';
+import {gzipSync} from 'node:zlib';
+import {signsOf} from '../page/engine/signs.js';
+import {limitsOf} from './limits.mjs';
+import {DE} from '../page/texts/de.js';
+import {EN} from '../page/texts/en.js';
+import {FR} from '../page/texts/fr.js';
 
 const [root, folder, entry = join(root, 'page', 'main.js')] = process.argv.slice(2);
 // How many bytes the page may have. tests/page/page_limit.mjs tries how soon it is ready.
 const MOST = 1048576;
-const FOLDERS = ['crates', 'web', 'page', 'examples']; // what the page is made of
-const EXAMPLES = ['balloon', 'heart', 'mushroom', 'boat']; // the first is to be mended
-const TEXTS = { en: EN, de: DE, fr: FR };
+const FOLDERS = ['crates', 'web', 'page', 'examples'];      // what the page is made of
+const EXAMPLES = ['balloon', 'heart', 'mushroom', 'boat'];  // the first is to be mended
+const TEXTS = {
+  en: EN,
+  de: DE,
+  fr: FR
+};
 const MANIFEST = {
-  name: 'nonobench', short_name: 'nonobench', description: 'A workbench for multicolour nonograms', start_url: './', scope: './', display: 'standalone',
-  icons: [{ src: 'icon.svg', sizes: 'any', type: 'image/svg+xml' }],
+  name: 'nonobench',
+  short_name: 'nonobench',
+  description: 'A workbench for multicolour nonograms',
+  start_url: './',
+  scope: './',
+  display: 'standalone',
+  icons: [{src: 'icon.svg', sizes: 'any', type: 'image/svg+xml'}],
 };
 
 const read = (...parts) => readFileSync(join(root, ...parts), 'utf8');
@@ -29,7 +39,11 @@ const read = (...parts) => readFileSync(join(root, ...parts), 'utf8');
 // What git says of the repository; nothing where it is none.
 function git(...words) {
   try {
-    return execFileSync('git', ['-C', root, ...words], { encoding: 'utf8', stdio: ['ignore', 'pipe', 'ignore'] }).trim();
+    return execFileSync(
+               'git',
+               ['-C', root, ...words],
+               {encoding: 'utf8', stdio: ['ignore', 'pipe', 'ignore']}
+    ).trim();
   } catch {
     return '';
   }
@@ -38,48 +52,90 @@ function git(...words) {
 // What git calls the folders that the page is made of, where they are in a repository.
 function treesOf() {
   const names = git('rev-parse', ...FOLDERS.map((folder) => `HEAD:${folder}`)).split('\n');
-  return names[0] ? Object.fromEntries(FOLDERS.map((folder, at) => [folder, names[at].slice(0, 12)])) : {};
+  return names[0] ?
+      Object.fromEntries(FOLDERS.map((folder, at) => [folder, names[at].slice(0, 12)])) :
+      {};
 }
 
-// The last commit that changed what the page is made of. A later one, which puts the built page into the repository, has the same
-// page. A clone without its history does not know it.
-const commitOf = () => (git('rev-parse', '--is-shallow-repository') === 'true' ? '' : git('log', '-1', '--format=%H', '--', ...FOLDERS).slice(0, 12));
+// The last commit that changed what the page is made of. A later one, which puts the built page
+// into the repository, has the same page. A clone without its history does not know it.
+const commitOf = () =>
+    (git('rev-parse', '--is-shallow-repository') === 'true' ?
+         '' :
+         git('log', '-1', '--format=%H', '--', ...FOLDERS).slice(0, 12));
 
 // What a module comes to with all that it imports. What esbuild warns of is an error.
 function bundled(file, ...words) {
-  const { stdout, stderr, status } = spawnSync('esbuild', [file, '--bundle', '--minify', '--target=es2022', '--log-level=warning', ...words], { encoding: 'utf8', maxBuffer: 1 << 26 });
+  const {stdout, stderr, status} = spawnSync(
+      'esbuild',
+      [file, '--bundle', '--minify', '--target=es2022', '--log-level=warning', ...words],
+      {encoding: 'utf8', maxBuffer: 1 << 26}
+  );
   if (status !== 0 || stderr) throw new Error(`esbuild ${file}: ${stderr}`);
   return stdout.trimEnd();
 }
 
-// The tables of texts stand in the page beside its script: a browser reads only that of its language (page/texts/phrase.js).
-const script = (file) => bundled(file, '--format=iife', `--define:LIMITS=${JSON.stringify(limitsOf(root))}`, '--define:globalThis.HAS_TEXTS_APART=true');
+// The tables of texts stand in the page beside its script: a browser reads only that of its
+// language (page/texts/phrase.js).
+const script = (file) => bundled(
+    file,
+    '--format=iife',
+    `--define:LIMITS=${JSON.stringify(limitsOf(root))}`,
+    '--define:globalThis.HAS_TEXTS_APART=true'
+);
 const dataOf = (value) => JSON.stringify(value).replaceAll('<', '\\u003c');
 const hashOf = (text) => `'sha256-${createHash('sha256').update(text).digest('base64')}'`;
 
-// What the page may do: it runs its own script and style alone, known by their hashes, and fetches nothing. A served page has its
-// manifest with its icon, and the worker that keeps it for use without a network besides.
-const policyOf = (codes, style, served) => [
-  "default-src 'none'", `script-src ${codes.map(hashOf).join(' ')} 'wasm-unsafe-eval'`, `worker-src blob:${served ? " 'self'" : ''}`, ...(served ? ["manifest-src 'self'"] : []), `style-src ${hashOf(style)}`,
-  `img-src data: blob:${served ? " 'self'" : ''}`, 'connect-src blob: data:', "base-uri 'none'", "form-action 'none'",
+// What the page may do: it runs its own script and style alone, known by their hashes, and fetches
+// nothing. A served page has its manifest with its icon, and the worker that keeps it for use
+// without a network besides.
+const policyOf =
+    (codes, style, served) => ['default-src \'none\'',
+                               `script-src ${codes.map(hashOf).join(' ')} 'wasm-unsafe-eval'`,
+                               `worker-src blob:${served ? ' \'self\'' : ''}`,
+                               ...(served ? ['manifest-src \'self\''] : []),
+                               `style-src ${hashOf(style)}`,
+                               `img-src data: blob:${served ? ' \'self\'' : ''}`,
+                               'connect-src blob: data:',
+                               'base-uri \'none\'',
+                               'form-action \'none\'',
 ].join('; ');
 
 function pageTexts(version) {
   const worker = Buffer.from(script(join(root, 'page', 'engine', 'worker.js')));
-  const packed = gzipSync(Buffer.concat([worker, readFileSync(join(folder, 'nonobench.wasm'))]), { level: 9 });
-  packed[9] = 255; // the system that packed it
+  const packed =
+      gzipSync(Buffer.concat([worker, readFileSync(join(folder, 'nonobench.wasm'))]), {level: 9});
+  packed[9] = 255;  // the system that packed it
   const drawing = script(join(root, 'page', 'import', 'frame.js'));
-  const built = { drawing, packed: signsOf(packed), size: packed.length, worker: worker.length, version, commit: commitOf(), trees: treesOf() };
+  const built = {
+    drawing,
+    packed: signsOf(packed),
+    size: packed.length,
+    worker: worker.length,
+    version,
+    commit: commitOf(),
+    trees: treesOf()
+  };
   const icon = Buffer.from(read('page', 'icon.svg')).toString('base64');
   // What must not stand in a script within HTML; esbuild takes care of the end of the script.
   const code = `\n${script(entry).replaceAll('<!--', '<\\!--')}\n`;
   const style = `\n${bundled(join(root, 'page', 'styles', 'index.css'))}\n`;
   const parts = (served) => ({
-    '<!-- head: policy, icon -->': `<meta http-equiv="Content-Security-Policy" content="${policyOf([code, drawing], style, served)}">\n<link rel="icon" href="data:image/svg+xml;base64,${icon}">${served ? '\n<link rel="manifest" href="manifest.webmanifest">' : ''}`,
+    '<!-- head: policy, icon -->': `<meta http-equiv="Content-Security-Policy" content="${
+        policyOf(
+            [code, drawing], style, served
+        )}">\n<link rel="icon" href="data:image/svg+xml;base64,${icon}">${
+        served ? '\n<link rel="manifest" href="manifest.webmanifest">' : ''}`,
     '<!-- style -->': `<style>${style}</style>`,
     '<!-- built -->': [
-      ...EXAMPLES.map((name) => `<script type="text/plain" data-example="${name}">${read('examples', `${name}.ppm`)}</script>`),
-      ...Object.entries(TEXTS).map(([language, table]) => `<script type="application/json" data-texts="${language}">${dataOf(table)}</script>`),
+      ...EXAMPLES.map(
+          (name) => `<script type="text/plain" data-example="${name}">${
+              read('examples', `${name}.ppm`)}</script>`
+      ),
+      ...Object.entries(TEXTS).map(
+          ([language, table]) =>
+              `<script type="application/json" data-texts="${language}">${dataOf(table)}</script>`
+      ),
       `<script type="application/json" id="built">${dataOf(built)}</script>`,
     ].join('\n'),
     '<!-- script -->': `<script>${code}</script>`,
@@ -98,24 +154,35 @@ function filled(parts) {
   return text;
 }
 
-// Lays out the folder of a site: the page as index.html, and what a browser needs to keep it and to put it beside its programs.
+// Lays out the folder of a site: the page as index.html, and what a browser needs to keep it and to
+// put it beside its programs.
 function writeSite(site, text) {
-  rmSync(site, { recursive: true, force: true });
-  mkdirSync(site, { recursive: true });
-  for (const name of ['nonobench.wasm', 'nonobench.mjs', 'nonobench.d.ts']) if (existsSync(join(folder, name))) copyFileSync(join(folder, name), join(site, name));
+  rmSync(site, {recursive: true, force: true});
+  mkdirSync(site, {recursive: true});
+  for (const name of ['nonobench.wasm', 'nonobench.mjs', 'nonobench.d.ts'])
+    if (existsSync(join(folder, name))) copyFileSync(join(folder, name), join(site, name));
   const files = ['./', 'manifest.webmanifest', 'icon.svg'];
   const sum = createHash('sha256').update(text).digest('hex').slice(0, 16);
   writeFileSync(join(site, 'index.html'), text);
   copyFileSync(join(root, 'page', 'icon.svg'), join(site, 'icon.svg'));
   writeFileSync(join(site, 'manifest.webmanifest'), `${JSON.stringify(MANIFEST, null, 2)}\n`);
-  writeFileSync(join(site, 'offline.js'), `${bundled(join(root, 'web', 'offline.js'), `--define:FILES=${JSON.stringify(files)}`, `--define:SUM=${JSON.stringify(sum)}`)}\n`);
+  writeFileSync(
+      join(site, 'offline.js'),
+      `${
+          bundled(
+              join(root, 'web', 'offline.js'),
+              `--define:FILES=${JSON.stringify(files)}`,
+              `--define:SUM=${JSON.stringify(sum)}`
+          )}\n`
+  );
 }
 
 if (spawnSync('esbuild', ['--version']).error) {
   console.log('web/join.mjs: skipped: no esbuild');
   process.exit(77);
 }
-const [, version] = /VERSION: &str = "([^"]+)"/.exec(read('crates', 'program_options', 'src', 'version.rt'));
+const [, version] =
+    /VERSION: &str = "([^"]+)"/.exec(read('crates', 'program_options', 'src', 'version.rt'));
 const [alone, served] = pageTexts(version);
 const size = Buffer.byteLength(alone);
 if (size > MOST) {

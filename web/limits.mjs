@@ -1,11 +1,11 @@
 // The limits that the page keeps to, read from the crates' constants: limitsOf(ROOT).
-import { readFileSync } from 'node:fs';
-import { join } from 'node:path';
+import {readFileSync} from 'node:fs';
+import {join} from 'node:path';
 
 const PLACES = {
-  side: ['picture', 'picture', 'MAX_SIDE'], // rows and columns of a picture
-  colours: ['picture', 'picture', 'MAX_COLOURS'], // of a palette, with the background
-  history: ['edits', 'studio', 'MAX_DEPTH'], // edits that a bench can take back
+  side: ['picture', 'picture', 'MAX_SIDE'],        // rows and columns of a picture
+  colours: ['picture', 'picture', 'MAX_COLOURS'],  // of a palette, with the background
+  history: ['edits', 'studio', 'MAX_DEPTH'],       // edits that a bench can take back
 };
 
 /** The value of each limit, as a number. Throws where a crate has no such constant. */

@@ -1,15 +1,15 @@
-// The workbench as a module of JavaScript: benches on pictures, and the check of certificates. It imports nothing and runs in browsers
-// and in node from version 18 on.
+// The workbench as a module of JavaScript: benches on pictures, and the check of certificates. It
+// imports nothing and runs in browsers and in node from version 18 on.
 //
 //     const engine = await load(bytes)                      // the bytes of nonobench.wasm
-//     const bench = engine.open(picture, {history: 100})    // a P3 picture or a two-colour .non text
-//     bench.say('clues\nverdict\n')                         // what the program `nonobench work` answers
-//     bench.close()
-//     engine.check(picture, certificate, {givens: [[1, 1]]})    // {accepted, status, text, givens}
-//     engine.assess(picture, {background: '0,0,0'})         // {verdict, .., grade, flaws, fit}
-//     engine.prove(picture)                                 // {ruling, certificate}, a certificate with lemmas
-//     engine.clues(picture)                                 // what the program `nonobench` prints for it
-//     engine.version                                        // as `nonobench --version` prints it after the name
+//     const bench = engine.open(picture, {history: 100})    // a P3 picture or a two-colour .non
+//     text bench.say('clues\nverdict\n')                         // what the program `nonobench
+//     work` answers bench.close() engine.check(picture, certificate, {givens: [[1, 1]]})
+//     // {accepted, status, text, givens} engine.assess(picture, {background: '0,0,0'})
+//     // {verdict, .., grade, flaws, fit} engine.prove(picture) // {ruling, certificate}, a
+//     certificate with lemmas engine.clues(picture)                                 // what the
+//     program `nonobench` prints for it engine.version                                        // as
+//     `nonobench --version` prints it after the name
 
 const DONE = 0;
 const MEMORY = 4;
@@ -29,7 +29,10 @@ const ROOM = 65536;
 // Where the handle of a bench lies, behind the desk's pointer in its cell.
 const HANDLE_AT = 8n;
 
-/** Why a call was not answered. `kind` is 'open', 'memory', 'closed' or 'ended', and `text` what the program says. */
+/**
+ * Why a call was not answered. `kind` is 'open', 'memory', 'closed' or 'ended', and `text` what
+ * the program says.
+ */
 export class Fault extends Error {
   constructor(kind, text) {
     super(text);
@@ -42,10 +45,13 @@ export class Fault extends Error {
 const encoder = new TextEncoder();
 const decoder = new TextDecoder();
 
-// An option, where it is a property of the object itself: what somebody has put on Object.prototype is none.
-const own = (options, name) => (options && Object.hasOwn(options, name) ? options[name] : undefined);
+// An option, where it is a property of the object itself: what somebody has put on Object.prototype
+// is none.
+const own = (options, name) =>
+    (options && Object.hasOwn(options, name) ? options[name] : undefined);
 
-// The bytes of a text, or a copy of bytes: neither another thread nor a class of the caller's says anything else of them later.
+// The bytes of a text, or a copy of bytes: neither another thread nor a class of the caller's says
+// anything else of them later.
 function bytesOf(input) {
   if (typeof input === 'string') return encoder.encode(input);
   if (input instanceof Uint8Array || input instanceof ArrayBuffer) return new Uint8Array(input);
@@ -55,7 +61,8 @@ function bytesOf(input) {
 // The bytes of a file, which may have so many as for the program.
 function inputOf(input) {
   // A text has as many bytes as letters, or more.
-  if ((typeof input === 'string' ? input.length : input?.byteLength) > MOST_BYTES) throw new Fault('open', 'input too long');
+  if ((typeof input === 'string' ? input.length : input?.byteLength) > MOST_BYTES)
+    throw new Fault('open', 'input too long');
   const bytes = bytesOf(input);
   if (bytes.length > MOST_BYTES) throw new Fault('open', 'input too long');
   return bytes;
@@ -70,16 +77,18 @@ function backgroundOf(options) {
   return text;
 }
 
-// Whether a file is a .non text: a line of it begins with a word of that format, and it does not begin as a picture does.
+// Whether a file is a .non text: a line of it begins with a word of that format, and it does not
+// begin as a picture does.
 function isNon(bytes) {
   const front = decoder.decode(bytes.subarray(0, ROOM));
-  return !/^P3(?:\s|#)/.test(front) && /^[ \t]*(?:width|height|rows|columns|goal|catalogue|title)\b/m.test(front);
+  return !/^P3(?:\s|#)/.test(front) &&
+      /^[ \t]*(?:width|height|rows|columns|goal|catalogue|title)\b/m.test(front);
 }
 
 const NONE = new Uint8Array(0);
 
-// The cells that are published as a file of givens: a line for each pair, or a text as it is; null for 'any'. Each is an own property
-// of its array, read once.
+// The cells that are published as a file of givens: a line for each pair, or a text as it is; null
+// for 'any'. Each is an own property of its array, read once.
 function publishedOf(givens) {
   if (givens === undefined || givens === null) return NONE;
   if (givens === 'any') return null;
@@ -87,18 +96,24 @@ function publishedOf(givens) {
   if (givens.length > MOST_CELLS) throw new Fault('open', 'input too long');
   let lines = '';
   for (let at = 0; at < givens.length; at++) {
-    const place = own(givens, at), [row, column] = Array.isArray(place) && place.length === 2 ? [own(place, 0), own(place, 1)] : [];
+    const place = own(givens, at),
+          [row, column] =
+              Array.isArray(place) && place.length === 2 ? [own(place, 0), own(place, 1)] : [];
     if (!Number.isInteger(row) || !Number.isInteger(column)) {
-      throw new TypeError("givens must be pairs [row, column] that count from 1, a file of givens, or 'any'");
+      throw new TypeError(
+          'givens must be pairs [row, column] that count from 1, a file of givens, or \'any\''
+      );
     }
     lines += `given ${row} ${column}\n`;
   }
   return lines;
 }
 
-// Whether the file of a call is a .non text, as the option says or its contents do. A background goes with a picture alone.
+// Whether the file of a call is a .non text, as the option says or its contents do. A background
+// goes with a picture alone.
 function isNonFor(bytes, options, background) {
-  const format = own(options, 'format') ?? null, non = format === null ? isNon(bytes) : format === 'non';
+  const format = own(options, 'format') ?? null,
+        non = format === null ? isNon(bytes) : format === 'non';
   if (![null, 'ppm', 'non'].includes(format)) throw new Fault('open', 'format must be ppm or non');
   if (non && background.length > 0) throw new Fault('open', 'background goes with ppm');
   return non;
@@ -107,35 +122,43 @@ function isNonFor(bytes, options, background) {
 // The givens that a right certificate names: their lines stand directly below its first one.
 function givensOf(certificate) {
   const from = certificate.indexOf(0x0a) + 1;
-  if (certificate[from] !== 0x67) return []; // 'g'
+  if (certificate[from] !== 0x67) return [];  // 'g'
   const text = decoder.decode(certificate), line = /given (\d+) (\d+)(?:\n|$)/y, givens = [];
   line.lastIndex = from;
-  for (let found = line.exec(text); found; found = line.exec(text)) givens.push([Number(found[1]), Number(found[2])]);
+  for (let found = line.exec(text); found; found = line.exec(text))
+    givens.push([Number(found[1]), Number(found[2])]);
   return givens;
 }
 
 // The answer to a check, by its status and its text.
 function checkedOf(status, text, cert) {
-  const givens = status === DONE || text.startsWith('certificate UnpublishedGiven ') ? givensOf(cert) : [];
-  if (status === DONE && text !== `certificate accepted${givens.length > 0 ? `, givens ${givens.length}` : ''}\n`) throw new Fault('ended', `the module names other givens: ${text}`);
-  return { accepted: status === DONE, status, text, givens };
+  const givens =
+      status === DONE || text.startsWith('certificate UnpublishedGiven ') ? givensOf(cert) : [];
+  if (status === DONE &&
+      text !== `certificate accepted${givens.length > 0 ? `, givens ${givens.length}` : ''}\n`)
+    throw new Fault('ended', `the module names other givens: ${text}`);
+  return {accepted: status === DONE, status, text, givens};
 }
 
 const UTF_16 = 'it is UTF-16, and must be ASCII';
 
 // What a certificate that begins with these two bytes is.
 const ODD_STARTS = new Map([
-  ['255 254', UTF_16], ['254 255', UTF_16], ['110 0', UTF_16], ['0 110', UTF_16],
+  ['255 254', UTF_16],
+  ['254 255', UTF_16],
+  ['110 0', UTF_16],
+  ['0 110', UTF_16],
   ['239 187', 'it begins with a byte order mark, and must begin with its first word'],
 ]);
 
 /**
- * What an editor seems to have done to a certificate that was refused with the text `certificate NotCert at line 1`; empty where
- * there is no sign of that, and for another text.
+ * What an editor seems to have done to a certificate that was refused with the text `certificate
+ * NotCert at line 1`; empty where there is no sign of that, and for another text.
  */
 export function hintOf(text, certificate) {
   if (text.trimEnd() !== 'certificate NotCert at line 1') return '';
-  const front = bytesOf(certificate).subarray(0, ROOM), line = decoder.decode(front).split('\n', 1)[0];
+  const front = bytesOf(certificate).subarray(0, ROOM),
+        line = decoder.decode(front).split('\n', 1)[0];
   const odd = ODD_STARTS.get(front.subarray(0, 2).join(' '));
   return odd ?? (line.endsWith('\r') ? 'its lines end with CR LF, and must end with LF alone' : '');
 }
@@ -147,23 +170,37 @@ const ASSESSMENT = new RegExp([
   '(?<said>(?:(?:flaw|unknown) [a-z]+(?: [.a-o0-9]+)*\\n)*)(?<end>fit|unfit)\\n$',
 ].join('').replaceAll('N', '\\d+'));
 
-const numbersIn = (found, names) => Object.fromEntries(names.map((name) => [name, found[name] === undefined ? null : Number(found[name])]));
+const numbersIn = (found, names) => Object.fromEntries(
+    names.map((name) => [name, found[name] === undefined ? null : Number(found[name])])
+);
 
-/** What an assessment says, as a value: of the text of the library's call, the program or a session, which is in `text`. */
+/**
+ * What an assessment says, as a value: of the text of the library's call, the program or a
+ * session, which is in `text`.
+ */
 export function readAssessment(text) {
   const found = ASSESSMENT.exec(text)?.groups;
   if (!found) throw new TypeError(`this is no assessment: ${text.slice(0, 60)}`);
-  const lines = found.said.split('\n'), unknown = lines.find((line) => line.startsWith('unknown given '));
+  const lines = found.said.split('\n'),
+        unknown = lines.find((line) => line.startsWith('unknown given '));
   return {
-    verdict: found.verdict, other: found.verdict === 'ambiguous' ? found.other.split('\n').slice(0, -1) : null,
+    verdict: found.verdict,
+    other: found.verdict === 'ambiguous' ? found.other.split('\n').slice(0, -1) : null,
     ...numbersIn(found, ['rows', 'columns', 'colours', 'givens', 'open']),
-    grade: found.word ? { word: found.word, ...numbersIn(found, ['rounds', 'evaluations', 'wait', 'splits', 'depth']) } : null,
-    flaws: lines.filter((line) => line.startsWith('flaw ')).map((line) => line.slice(5)), unknown: unknown ? unknown.split(' ').slice(2).map(Number) : null,
-    fit: found.end === 'fit', text,
+    grade: found.word ? {
+      word: found.word,
+      ...numbersIn(found, ['rounds', 'evaluations', 'wait', 'splits', 'depth'])
+    } :
+                        null,
+    flaws: lines.filter((line) => line.startsWith('flaw ')).map((line) => line.slice(5)),
+    unknown: unknown ? unknown.split(' ').slice(2).map(Number) : null,
+    fit: found.end === 'fit',
+    text,
   };
 }
 
-// Runs calls of a module. A trap leaves its memory as it was in mid-call, so nothing is called after it.
+// Runs calls of a module. A trap leaves its memory as it was in mid-call, so nothing is called
+// after it.
 class Runs {
   hasEnded = false;
 
@@ -182,7 +219,7 @@ class Runs {
 /** An instance of the module with its memory. Each has benches of its own. */
 class Engine {
   #calls;
-  #cell; // that of the desk for calls without a bench
+  #cell;  // that of the desk for calls without a bench
   #runs = new Runs();
   // Ends the desks of benches that nobody holds any more.
   #dropped = new FinalizationRegistry((cell) => this.#end(cell));
@@ -195,13 +232,18 @@ class Engine {
   /** Opens a bench. Throws a Fault if the file is refused. */
   open(file, options = {}) {
     const bytes = inputOf(file), history = own(options, 'history') ?? 100;
-    if (!Number.isInteger(history) || history < 1 || history > 1000) throw new Fault('open', 'history must be 1 to 1000');
+    if (!Number.isInteger(history) || history < 1 || history > 1000)
+      throw new Fault('open', 'history must be 1 to 1000');
     const background = this.#background(options), non = isNonFor(bytes, options, background);
     // Each bench has a desk of its own, which ends in a moment, however many others are open.
     const cell = this.#desk();
     try {
-      const status = this.#lend([bytes, background], ([file, word]) =>
-        this.#calls.nonobench_open(cell, file.at, file.size, non ? 1 : 0, word.at, word.size, history, cell + HANDLE_AT));
+      const status = this.#lend(
+          [bytes, background],
+          ([file, word]) => this.#calls.nonobench_open(
+              cell, file.at, file.size, non ? 1 : 0, word.at, word.size, history, cell + HANDLE_AT
+          )
+      );
       if (status !== DONE) this.#refuse(status, cell);
     } catch (fault) {
       this.#end(cell);
@@ -213,57 +255,97 @@ class Engine {
   }
 
   /**
-   * Checks a certificate of a picture, in any of its forms, and answers the program's text and status: 0 if it is accepted. `givens`
-   * are the cells that are published, [row, column] each, or a file with a line `given R C` for each; by default none. A certificate
-   * that names another given is refused with the text `certificate UnpublishedGiven at line N`. The answer has the givens that the
-   * certificate names, if its proof is right. 'any' accepts whatever it names, for a site that then publishes these cells.
+   * Checks a certificate of a picture, in any of its forms, and answers the program's text and
+   * status: 0 if it is accepted. `givens` are the cells that are published, [row, column] each, or
+   * a file with a line `given R C` for each; by default none. A certificate that names another
+   * given is refused with the text `certificate UnpublishedGiven at line N`. The answer has the
+   * givens that the certificate names, if its proof is right. 'any' accepts whatever it names, for
+   * a site that then publishes these cells.
    */
   check(picture, certificate, options = {}) {
     const background = this.#background(options), published = publishedOf(own(options, 'givens'));
-    const cert = inputOf(certificate); // what is checked here, and what the givens are read of
-    const files = [inputOf(picture), cert, ...(published === null ? [] : [inputOf(published)]), background];
+    const cert = inputOf(certificate);  // what is checked here, and what the givens are read of
+    const files =
+        [inputOf(picture), cert, ...(published === null ? [] : [inputOf(published)]), background];
     const call = published === null ? 'nonobench_check' : 'nonobench_check_published';
-    const status = this.#lend(files, (lent) => this.#calls[call](this.#cell, ...lent.flatMap(({ at, size }) => [at, size])));
+    const status = this.#lend(
+        files, (lent) => this.#calls[call](this.#cell, ...lent.flatMap(({at, size}) => [at, size]))
+    );
     if (status === MEMORY || status === OPTIONS) this.#refuse(status);
     return checkedOf(status, this.#text(), cert);
   }
 
   /** @deprecated The old name of `check`. */
-  verify(...words) { return this.check(...words); }
+  verify(...words) {
+    return this.check(...words);
+  }
 
   /**
-   * Assesses a puzzle, a picture or a .non text with a goal: what readAssessment gives of the engine's text. A background that is passed
-   * counts as named. `givens` are published in place of the picture's own, as for `check`, and with a `certificate` nothing is searched.
-   * `allowance` bounds the splits of each part. Throws a Fault where one of the files is refused.
+   * Assesses a puzzle, a picture or a .non text with a goal: what readAssessment gives of the
+   * engine's text. A background that is passed counts as named. `givens` are published in place of
+   * the picture's own, as for `check`, and with a `certificate` nothing is searched. `allowance`
+   * bounds the splits of each part. Throws a Fault where one of the files is refused.
    */
   assess(puzzle, options = {}) {
-    const file = inputOf(puzzle), background = this.#background(options), non = isNonFor(file, options, background);
+    const file = inputOf(puzzle), background = this.#background(options),
+          non = isNonFor(file, options, background);
     const allowance = own(options, 'allowance') ?? NO_ALLOWANCE;
-    if (allowance !== NO_ALLOWANCE && !(Number.isInteger(allowance) && allowance >= 0 && allowance <= MOST_SPLITS)) {
+    if (allowance !== NO_ALLOWANCE &&
+        !(Number.isInteger(allowance) && allowance >= 0 && allowance <= MOST_SPLITS)) {
       throw new Fault('open', `allowance must be 0 to ${MOST_SPLITS}`);
     }
-    const [givens, certificate] = ['givens', 'certificate'].map((name) => own(options, name) ?? null);
-    const texts = [givens === null || givens === 'any' ? givens : publishedOf(givens), certificate].map((text) => text !== null && inputOf(text));
-    const status = this.#lend([file, background, ...texts.map((text) => text || NONE)], ([picture, word, listed, cert]) =>
-      this.#calls.nonobench_assess(this.#cell, picture.at, picture.size, non ? 1 : 0, word.at, word.size,
-        texts[0] ? 1 : 0, listed.at, listed.size, texts[1] ? 1 : 0, cert.at, cert.size, allowance));
+    const [givens, certificate] =
+        ['givens', 'certificate'].map((name) => own(options, name) ?? null);
+    const texts =
+        [givens === null || givens === 'any' ? givens : publishedOf(givens), certificate].map(
+            (text) => text !== null && inputOf(text)
+        );
+    const status = this.#lend(
+        [file, background, ...texts.map((text) => text || NONE)],
+        ([picture, word, listed, cert]) => this.#calls.nonobench_assess(
+            this.#cell,
+            picture.at,
+            picture.size,
+            non ? 1 : 0,
+            word.at,
+            word.size,
+            texts[0] ? 1 : 0,
+            listed.at,
+            listed.size,
+            texts[1] ? 1 : 0,
+            cert.at,
+            cert.size,
+            allowance
+        )
+    );
     if (status !== DONE) this.#refuse(status);
     return readAssessment(this.#text());
   }
 
   /**
-   * Makes a certificate with lemmas of a picture: {ruling, certificate}. The ruling is 'unique' with the certificate, which has no
-   * givens, or 'ambiguous' or 'undecided' with null. Throws a Fault where the picture is refused.
+   * Makes a certificate with lemmas of a picture: {ruling, certificate}. The ruling is 'unique'
+   * with the certificate, which has no givens, or 'ambiguous' or 'undecided' with null. Throws a
+   * Fault where the picture is refused.
    */
   prove(picture, options = {}) {
-    const status = this.#lend([inputOf(picture), this.#background(options)], ([file, word]) =>
-      this.#calls.nonobench_prove(this.#cell, file.at, file.size, word.at, word.size));
+    const status = this.#lend(
+        [inputOf(picture), this.#background(options)],
+        ([file, word]) =>
+            this.#calls.nonobench_prove(this.#cell, file.at, file.size, word.at, word.size)
+    );
     if (status !== DONE) this.#refuse(status);
     const text = this.#text(), certificate = text.startsWith('nono') ? text : null;
-    return { ruling: certificate ? 'unique' : text.trimEnd(), certificate, proof: certificate }; // `proof` is its old name
+    return {
+      ruling: certificate ? 'unique' : text.trimEnd(),
+      certificate,
+      proof: certificate
+    };  // `proof` is its old name
   }
 
-  /** The clues of a file, a line each, as the program prints them. Throws a Fault if the file is refused. */
+  /**
+   * The clues of a file, a line each, as the program prints them. Throws a Fault if the file is
+   * refused.
+   */
   clues(file, options = {}) {
     const bench = this.open(file, options);
     try {
@@ -277,8 +359,11 @@ class Engine {
 
   // Answers lines on the bench of a cell's desk.
   #say(cell, lines) {
-    const handle = new DataView(this.#calls.memory.buffer).getUint32(Number(cell + HANDLE_AT), true);
-    const status = this.#lend([bytesOf(lines)], ([text]) => this.#calls.nonobench_say(cell, handle, text.at, text.size));
+    const handle =
+        new DataView(this.#calls.memory.buffer).getUint32(Number(cell + HANDLE_AT), true);
+    const status = this.#lend(
+        [bytesOf(lines)], ([text]) => this.#calls.nonobench_say(cell, handle, text.at, text.size)
+    );
     if (status !== DONE) this.#refuse(status, cell);
     return this.#text(cell);
   }
@@ -315,11 +400,14 @@ class Engine {
   // Ends a desk with what is open on it, and gives its cell back.
   #end(cell) {
     if (this.#runs.hasEnded) return;
-    this.#calls.nonobench_end(new DataView(this.#calls.memory.buffer).getBigUint64(Number(cell), true));
+    this.#calls.nonobench_end(new DataView(this.#calls.memory.buffer
+    ).getBigUint64(Number(cell), true));
     this.#calls.free(cell);
   }
 
-  #background(options) { return encoder.encode(backgroundOf(options)); }
+  #background(options) {
+    return encoder.encode(backgroundOf(options));
+  }
 
   #refuse(status, cell = this.#cell) {
     if (status === MEMORY) throw new Fault('memory', 'memory');
@@ -334,11 +422,12 @@ class Engine {
 
   // The text that a call puts out, as far as there is room, and answers how many bytes it has.
   #put(call) {
-    for (let room = ROOM; ;) {
+    for (let room = ROOM;;) {
       const out = this.#room(room);
       try {
         const size = Number(this.#runs.of(() => call(out, BigInt(room))));
-        if (size <= room) return decoder.decode(new Uint8Array(this.#calls.memory.buffer, Number(out), size));
+        if (size <= room)
+          return decoder.decode(new Uint8Array(this.#calls.memory.buffer, Number(out), size));
         room = size;
       } finally {
         this.#give(out);
@@ -353,11 +442,11 @@ class Engine {
       for (const bytes of inputs) {
         const at = this.#room(bytes.length);
         new Uint8Array(this.#calls.memory.buffer, Number(at), bytes.length).set(bytes);
-        lent.push({ at, size: BigInt(bytes.length) });
+        lent.push({at, size: BigInt(bytes.length)});
       }
       return this.#runs.of(() => call(lent));
     } finally {
-      for (const { at } of lent) this.#give(at);
+      for (const {at} of lent) this.#give(at);
     }
   }
 
@@ -372,7 +461,10 @@ class Engine {
   }
 }
 
-/** A bench on a picture: what a session is said to, until it is closed. One that nobody holds any more is closed at some time. */
+/**
+ * A bench on a picture: what a session is said to, until it is closed. One that nobody holds any
+ * more is closed at some time.
+ */
 class Bench {
   #say;
   #close;
@@ -408,9 +500,9 @@ class Bench {
 
 /** Makes an engine of the bytes of nonobench.wasm. */
 export async function load(bytes) {
-  const { instance } = await WebAssembly.instantiate(bytes, {});
+  const {instance} = await WebAssembly.instantiate(bytes, {});
   return new Engine(instance);
 }
 
 // What web/check.mjs takes over.
-export { backgroundOf, checkedOf, inputOf, own, publishedOf, Runs };
+export {backgroundOf, checkedOf, inputOf, own, publishedOf, Runs};

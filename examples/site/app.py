@@ -38,11 +38,15 @@ MOST_HEAD = 1000  # bytes of a title, and of what is said of a part, that are lo
 # All that Flask gets to see of a request's headers, and how it looks: for others, Werkzeug may take long.
 HEADERS = {"CONTENT_LENGTH", "CONTENT_TYPE", "HTTP_ACCEPT", "HTTP_HOST"}
 PLAIN = re.compile("[\t -~]{,300}")
-BLANKS = re.compile(rb"[ \t]{100}")  # of a header, for which waitress takes long; as it does for bodies in small pieces
+BLANKS = re.compile(
+    rb"[ \t]{100}"
+)  # of a header, for which waitress takes long; as it does for bodies in small pieces
 # What is said of a part of a form, and an option of a header.
 PART = re.compile(r"(?:\r\n.+)*?\r\ncontent-disposition:[ \t]*form-data(;.+)", re.IGNORECASE)
 OPTION = re.compile(r';[ \t]*([\w*-]+)=("[^"]*"|[^\s";]*)')
-COMMENTS = re.compile(rb"(?:#[^\r\n]*\s*){1,999}")  # of a picture, some at a time, since each match takes memory
+COMMENTS = re.compile(
+    rb"(?:#[^\r\n]*\s*){1,999}"
+)  # of a picture, some at a time, since each match takes memory
 PNG = b"\x89PNG\r\n\x1a\n"
 WHITE = (255, 255, 255)
 
@@ -50,7 +54,9 @@ WHITE = (255, 255, 255)
 UNSEEN = {"Cc", "Cf", "Cn", "Co", "Cs"}
 JOINERS = "\u200c\u200d"
 # Letters and signs that show nothing: fillers of Hangul, empty cells of Braille and hieroglyphs, place holders, a note without a head.
-BLANK = dict.fromkeys(map(ord, "\u115f\u1160\u2800\u3164\uffa0\ufffc\U00013441\U00013442\U0001d159"), " ")
+BLANK = dict.fromkeys(
+    map(ord, "\u115f\u1160\u2800\u3164\uffa0\ufffc\U00013441\U00013442\U0001d159"), " "
+)
 
 # `shown` is the sum of the picture's size and of its cells as they are shown: what makes two puzzles one, whatever cells are given.
 TABLE = """
@@ -107,17 +113,26 @@ thead th span { display: block } td, th span { -webkit-print-color-adjust: exact
 </style></head><body><nav><a href="{{ url_for('puzzles') }}">Puzzles</a> <a href="{{ url_for('form') }}">Upload one</a></nav>
 <h1 dir="auto">{{ title }}</h1>"""
 
-LIST = PAGE + """<ul>{% for puzzle in found %}
+LIST = (
+    PAGE
+    + """<ul>{% for puzzle in found %}
 <li dir="auto"><a href="{{ url_for('puzzle', number=puzzle.id) }}">{{ puzzle.title }}</a></li>{% else %}<li>None yet.</li>{% endfor %}</ul>"""
+)
 
-FORM = PAGE + """{% if reason %}<p class="refused">{{ reason }}</p>{% endif %}
+FORM = (
+    PAGE
+    + """{% if reason %}<p class="refused">{{ reason }}</p>{% endif %}
 <form method="post" action="{{ url_for('take') }}" enctype="multipart/form-data">
 <label>Title <input name="title" maxlength="100"></label>
 <label>Picture, one cell per pixel (PNG, or PPM as P3 text) <input type="file" name="picture" required></label>
 <label>Certificate <input type="file" name="certificate" required></label><button>Check and publish</button></form>"""
+)
 
-PUZZLE = PAGE + """{{ table }}<p>It has one solution{% if givens %} with the {{ givens }} framed
+PUZZLE = (
+    PAGE
+    + """{{ table }}<p>It has one solution{% if givens %} with the {{ givens }} framed
 {{ "cell that is" if givens == 1 else "cells that are" }} given (×: it stays empty){% endif %}: this was proved when it was uploaded.</p>"""
+)
 PAGES = DictLoader({"list.html": LIST, "form.html": FORM, "puzzle.html": PUZZLE})
 
 
@@ -138,9 +153,13 @@ def picture_of(file):
     try:
         return nonobench.picture_of_image(file)
     except ImportError as error:
-        raise Refused("This site cannot read PNG, since Pillow is not installed. Upload a plain PPM text (P3).") from error
+        raise Refused(
+            "This site cannot read PNG, since Pillow is not installed. Upload a plain PPM text (P3)."
+        ) from error
     except nonobench.ImageFault as fault:
-        raise Refused(WORDS["TooLarge"] if fault.name == "a size" else f"The image is refused: {fault.name}.") from fault
+        raise Refused(
+            WORDS["TooLarge"] if fault.name == "a size" else f"The image is refused: {fault.name}."
+        ) from fault
 
 
 class Picture:
@@ -153,18 +172,26 @@ class Picture:
         words = [int(word[-5:]) for word in COMMENTS.sub(b" ", file[2:]).split()]
         self.columns, self.rows, maxval = words[:3]
         exact = list(zip(words[3::3], words[4::3], words[5::3]))
-        self.palette = {triple: nonobench.colour_shown(triple, maxval) for triple in dict.fromkeys([(maxval,) * 3, *exact])}
+        self.palette = {
+            triple: nonobench.colour_shown(triple, maxval)
+            for triple in dict.fromkeys([(maxval,) * 3, *exact])
+        }
         self.cells = [self.palette[triple] for triple in exact]
 
 
 def puzzle_of(picture, clues, givens):
     """What is published: clues, the colours of their letters, the givens with their colours."""
-    return json.dumps({
-        "rows": clues.rows,
-        "columns": clues.columns,
-        "colours": dict(zip("abcdefghijklmno", list(picture.palette.values())[1:])),
-        "givens": [[row, column, picture.cells[(row - 1) * picture.columns + column - 1]] for row, column in givens],
-    })
+    return json.dumps(
+        {
+            "rows": clues.rows,
+            "columns": clues.columns,
+            "colours": dict(zip("abcdefghijklmno", list(picture.palette.values())[1:])),
+            "givens": [
+                [row, column, picture.cells[(row - 1) * picture.columns + column - 1]]
+                for row, column in givens
+            ],
+        }
+    )
 
 
 def refuse_unfit(picture, said):
@@ -173,10 +200,18 @@ def refuse_unfit(picture, said):
         if flaw.kind == "alike":
             shown = list(picture.palette.values())
             pair = [shown[".abcdefghijklmno".index(letter)] for letter in flaw.colours]
-            first, second = ("white" if triple == WHITE else "rgb({}, {}, {})".format(*triple) for triple in pair)
-            raise Refused(f"Two colours look alike: {first} and {second}. Make them differ more; white is the background.")
+            first, second = (
+                "white" if triple == WHITE else "rgb({}, {}, {})".format(*triple) for triple in pair
+            )
+            raise Refused(
+                f"Two colours look alike: {first} and {second}. Make them differ more; white is the background."
+            )
     if not said.is_fit:
-        raise Refused("The picture is blank." if "blank" in map(str, said.flaws) else "The puzzle is not fit to be published.")
+        raise Refused(
+            "The picture is blank."
+            if "blank" in map(str, said.flaws)
+            else "The puzzle is not fit to be published."
+        )
     if said.givens == said.rows * said.columns:
         raise Refused("The certificate gives every cell, so there is nothing left to solve.")
 
@@ -184,7 +219,11 @@ def refuse_unfit(picture, said):
 def title_of(text):
     """A title that is shown as it is: without control characters, and without those that turn the direction of writing."""
     words = text.translate(BLANK).split()
-    seen = "".join(sign for sign in " ".join(words) if sign in JOINERS or unicodedata.category(sign) not in UNSEEN)
+    seen = "".join(
+        sign
+        for sign in " ".join(words)
+        if sign in JOINERS or unicodedata.category(sign) not in UNSEEN
+    )
     seen = seen[:MOST_TITLE].strip()
     return seen if any(unicodedata.category(sign)[0] in "LNPS" for sign in seen) else "Untitled"
 
@@ -192,20 +231,33 @@ def title_of(text):
 def reason_of(fault, certificate):
     """A fault in words, of a picture or of its certificate."""
     hint, place = nonobench.hint_of(fault, certificate), fault.text.rpartition(" at ")[2]
-    return WORDS.get(fault.name, fault.text) + (f" It seems that {hint}." if hint else "") + (f" ({place})" if " at " in fault.text else "")
+    return (
+        WORDS.get(fault.name, fault.text)
+        + (f" It seems that {hint}." if hint else "")
+        + (f" ({place})" if " at " in fault.text else "")
+    )
 
 
 def plain(application):
     """A WSGI application that gets the headers which the site reads, where they are short and of plain signs, and no others."""
-    return lambda environ, start: application({
-        name: value for name, value in environ.items()
-        if not name.startswith(("CONTENT_", "HTTP_")) or name in HEADERS and PLAIN.fullmatch(value)
-    } | {"PATH_INFO": environ.get("PATH_INFO") or "/"}, start)  # for an empty path, Werkzeug redirects to the host that the client names
+    return lambda environ, start: application(
+        {
+            name: value
+            for name, value in environ.items()
+            if not name.startswith(("CONTENT_", "HTTP_"))
+            or name in HEADERS
+            and PLAIN.fullmatch(value)
+        }
+        | {"PATH_INFO": environ.get("PATH_INFO") or "/"},
+        start,
+    )  # for an empty path, Werkzeug redirects to the host that the client names
 
 
 def option(header, wanted):
     """The first option of a header that is called so, or an empty text."""
-    return next((text.strip('"') for name, text in OPTION.findall(header) if name.lower() == wanted), "")
+    return next(
+        (text.strip('"') for name, text in OPTION.findall(header) if name.lower() == wanted), ""
+    )
 
 
 def fields_of_form():
@@ -221,8 +273,16 @@ def fields_of_form():
         said = PART.match(head[:MOST_HEAD].decode("latin-1"))
         if blank and said and (name := option(said[1], "name")):
             fields[name] = text
-    if not edge or before.strip(b"\r\n") or parts[-1:] not in ([b"--"], [b"--\r\n"]) or len(fields) < len(parts) - 1:
-        raise Refused(f"The form cannot be read. Send it as a browser does, as multipart/form-data with at most {MOST_PARTS} fields, each once.", 400)
+    if (
+        not edge
+        or before.strip(b"\r\n")
+        or parts[-1:] not in ([b"--"], [b"--\r\n"])
+        or len(fields) < len(parts) - 1
+    ):
+        raise Refused(
+            f"The form cannot be read. Send it as a browser does, as multipart/form-data with at most {MOST_PARTS} fields, each once.",
+            400,
+        )
     return fields
 
 
@@ -243,13 +303,21 @@ def table_of(puzzle):
     """The table of a puzzle, with nothing that a stranger wrote. A template takes long for thousands of cells."""
     inks = {letter: ink_of(triple) for letter, triple in puzzle["colours"].items()}
     # Each given cell has a frame and a mark, whatever its colour: a cross where it stays empty.
-    looks = {triple: f'<td class="given" style="{ink_of(triple)}">{"×" if triple == WHITE else "●"}</td>'
-             for triple in {tuple(triple) for _, _, triple in puzzle["givens"]}}
+    looks = {
+        triple: f'<td class="given" style="{ink_of(triple)}">{"×" if triple == WHITE else "●"}</td>'
+        for triple in {tuple(triple) for _, _, triple in puzzle["givens"]}
+    }
     cells = [["<td></td>"] * len(puzzle["columns"]) for _ in puzzle["rows"]]
     for row, column, triple in puzzle["givens"]:
         cells[row - 1][column - 1] = looks[tuple(triple)]
-    top, left = (["".join(f'<span style="{inks[letter]}">{length}</span>' for length, letter in blocks) or "<span>0</span>"
-                  for blocks in puzzle[lines]] for lines in ("columns", "rows"))
+    top, left = (
+        [
+            "".join(f'<span style="{inks[letter]}">{length}</span>' for length, letter in blocks)
+            or "<span>0</span>"
+            for blocks in puzzle[lines]
+        ]
+        for lines in ("columns", "rows")
+    )
     head = "".join(f"<th>{clue}</th>" for clue in top)
     body = "\n".join(f"<tr><th>{clue}</th>{''.join(line)}</tr>" for clue, line in zip(left, cells))
     return Markup(f"<table><thead><tr><th></th>{head}</tr></thead>\n<tbody>{body}</tbody></table>")
@@ -275,7 +343,9 @@ class Site:
         except nonobench.Fault as fault:
             raise Refused(reason_of(fault, certificate)) from fault
         except TimeoutError as error:
-            raise Refused(f"The check took more than {self.config['SECONDS']:g} seconds.") from error
+            raise Refused(
+                f"The check took more than {self.config['SECONDS']:g} seconds."
+            ) from error
         except MemoryError as error:
             raise Refused("The check took too much memory.", 503) from error
         finally:
@@ -299,7 +369,9 @@ class Site:
         with self.database() as database:
             if not database.execute(PUBLISH, (title, file, certificate, puzzle, shown)).rowcount:
                 raise Refused("This puzzle is already here, with as few given cells.", 409)
-            return database.execute("SELECT id FROM published WHERE shown = ?", (shown,)).fetchone()["id"]
+            return database.execute(
+                "SELECT id FROM published WHERE shown = ?", (shown,)
+            ).fetchone()["id"]
 
 
 def guard(app):
@@ -312,7 +384,9 @@ def guard(app):
 
     @app.after_request
     def restrict(response):
-        response.headers["Content-Security-Policy"] = "default-src 'none'; style-src 'unsafe-inline'; form-action 'self'; frame-ancestors 'none'; base-uri 'none'"
+        response.headers[
+            "Content-Security-Policy"
+        ] = "default-src 'none'; style-src 'unsafe-inline'; form-action 'self'; frame-ancestors 'none'; base-uri 'none'"
         response.headers["X-Content-Type-Options"] = "nosniff"
         response.headers["Vary"] = "Accept"
         return response
@@ -338,9 +412,22 @@ def add_pages(app, site):
 
     @app.get("/")
     def puzzles():
-        found = site.database().execute("SELECT id, title FROM published ORDER BY id DESC LIMIT ?", (MOST_SHOWN,)).fetchall()
+        found = (
+            site.database()
+            .execute("SELECT id, title FROM published ORDER BY id DESC LIMIT ?", (MOST_SHOWN,))
+            .fetchall()
+        )
         if wants_json():
-            return jsonify(puzzles=[{"number": row["id"], "title": row["title"], "address": url_for("puzzle", number=row["id"])} for row in found])
+            return jsonify(
+                puzzles=[
+                    {
+                        "number": row["id"],
+                        "title": row["title"],
+                        "address": url_for("puzzle", number=row["id"]),
+                    }
+                    for row in found
+                ]
+            )
         return render_template("list.html", title="Puzzles", found=found)
 
     @app.get("/new")
@@ -352,7 +439,11 @@ def add_pages(app, site):
         title, picture, certificate = map(fields_of_form().get, ("title", "picture", "certificate"))
         if picture is None or certificate is None:
             raise Refused("Choose a picture and a certificate.")
-        number = site.store(title_of((title or b"")[:MOST_HEAD].decode("utf-8", "ignore")), picture_of(picture), certificate)
+        number = site.store(
+            title_of((title or b"")[:MOST_HEAD].decode("utf-8", "ignore")),
+            picture_of(picture),
+            certificate,
+        )
         address = url_for("puzzle", number=number)
         if wants_json():
             return jsonify(number=number, address=address), 201, {"Location": address}
@@ -360,19 +451,32 @@ def add_pages(app, site):
 
     @app.get("/puzzles/<number>")
     def puzzle(number):
-        wanted = int(number) if re.fullmatch("[1-9][0-9]{0,17}", number) else 0  # fewer digits than the database's numbers have
-        found = site.database().execute("SELECT title, puzzle FROM published WHERE id = ?", (wanted,)).fetchone()
+        wanted = (
+            int(number) if re.fullmatch("[1-9][0-9]{0,17}", number) else 0
+        )  # fewer digits than the database's numbers have
+        found = (
+            site.database()
+            .execute("SELECT title, puzzle FROM published WHERE id = ?", (wanted,))
+            .fetchone()
+        )
         title, puzzle = found or abort(404)
         if wants_json():
-            return Response(f'{{"number": {number}, "title": {json.dumps(title)}, {puzzle[1:]}', mimetype="application/json")
+            return Response(
+                f'{{"number": {number}, "title": {json.dumps(title)}, {puzzle[1:]}',
+                mimetype="application/json",
+            )
         puzzle = json.loads(puzzle)
-        return render_template("puzzle.html", title=title, table=table_of(puzzle), givens=len(puzzle["givens"]))
+        return render_template(
+            "puzzle.html", title=title, table=table_of(puzzle), givens=len(puzzle["givens"])
+        )
 
 
 def create_app(**config):
     """The site. DATABASE is its file, SECONDS and MEMORY (bytes) bound a check, WORKERS is how many run at once."""
     app = Flask(__name__, static_folder=None)
-    app.url_map = app.url_map_class(merge_slashes=False)  # it redirects, to the host that the client names
+    app.url_map = app.url_map_class(
+        merge_slashes=False
+    )  # it redirects, to the host that the client names
     app.jinja_loader = PAGES
     app.wsgi_app = plain(app.wsgi_app)
     app.config.update(MAX_CONTENT_LENGTH=2 << 20, WORKERS=2, SECONDS=5.0, MEMORY=1 << 30)
@@ -394,7 +498,14 @@ def to_close(channels):
     waiting = [channel for channel in channels if channel.requests]
     channels = waiting if len(waiting) > MOST_WAITING else channels
     counts = Counter(network(channel.addr[0]) for channel in channels)
-    return min(channels, key=lambda channel: (-counts[network(channel.addr[0])], bool(channel.requests), channel.last_activity))
+    return min(
+        channels,
+        key=lambda channel: (
+            -counts[network(channel.addr[0])],
+            bool(channel.requests),
+            channel.last_activity,
+        ),
+    )
 
 
 class Turns:
@@ -408,7 +519,11 @@ class Turns:
 
     def append(self, channel):
         """Puts a connection behind those of its address. Those that were closed meanwhile go, with what they have sent."""
-        self.waiting = {address: left for address, channels in self.waiting.items() if (left := deque(one for one in channels if one.connected))}
+        self.waiting = {
+            address: left
+            for address, channels in self.waiting.items()
+            if (left := deque(one for one in channels if one.connected))
+        }
         self.waiting.setdefault(network(channel.addr[0]), deque()).append(channel)
 
     def popleft(self):
@@ -423,7 +538,9 @@ def take_turns(pages, workers):
     uploads, add_page = type(pages)(), pages.add_task
     pages.queue, uploads.queue = Turns(), Turns()
     uploads.set_thread_count(workers)
-    pages.add_task = lambda channel: (uploads.add_task if getattr(channel.requests[0], "command", "") == "POST" else add_page)(channel)
+    pages.add_task = lambda channel: (
+        uploads.add_task if getattr(channel.requests[0], "command", "") == "POST" else add_page
+    )(channel)
 
 
 def bound_connections():
@@ -451,7 +568,9 @@ def bound_connections():
             taken = super().received(data)
             if self.empty:  # blank lines, of which waitress reads any number, and slowly
                 self.empty, self.error = False, BadRequest("Blank lines")
-            self.expect_continue = self.expect_continue and not self.completed  # else waitress would wait for a body
+            self.expect_continue = (
+                self.expect_continue and not self.completed
+            )  # else waitress would wait for a body
             return len(data) if self.completed else taken  # what comes behind it is not read
 
     class Channel(HTTPChannel):
@@ -460,9 +579,15 @@ def bound_connections():
         parser_class = Request
 
         def __init__(self, server, sock, *place, **named):
-            sock.setsockopt(socket.SOL_SOCKET, socket.SO_SNDBUF, 1 << 16)  # little, so that slow clients are not silent for long
+            sock.setsockopt(
+                socket.SOL_SOCKET, socket.SO_SNDBUF, 1 << 16
+            )  # little, so that slow clients are not silent for long
             super().__init__(server, sock, *place, **named)
-            others = [other for other in list(self._map.values()) if isinstance(other, HTTPChannel) and other is not self and not other.will_close]
+            others = [
+                other
+                for other in list(self._map.values())
+                if isinstance(other, HTTPChannel) and other is not self and not other.will_close
+            ]
             if len(others) >= min(MOST_OPEN, files // 4):
                 to_close(others).will_close = True
 
@@ -486,8 +611,17 @@ def main():
     listen = os.environ.get("SITE_LISTEN", "127.0.0.1:5000")
     logging.getLogger("waitress.queue").setLevel(logging.ERROR)
     server = waitress.create_server(
-        app, listen=listen, threads=8, connection_limit=1000, asyncore_use_poll=True, channel_timeout=30, max_request_header_size=1 << 13,
-        max_request_body_size=2 * app.config["MAX_CONTENT_LENGTH"], inbuf_overflow=1 << 16, outbuf_overflow=1 << 16, ident=None,
+        app,
+        listen=listen,
+        threads=8,
+        connection_limit=1000,
+        asyncore_use_poll=True,
+        channel_timeout=30,
+        max_request_header_size=1 << 13,
+        max_request_body_size=2 * app.config["MAX_CONTENT_LENGTH"],
+        inbuf_overflow=1 << 16,
+        outbuf_overflow=1 << 16,
+        ident=None,
     )
     take_turns(server.task_dispatcher, app.config["WORKERS"])
     logging.basicConfig()

@@ -36,8 +36,17 @@ takes_long = unittest.skipIf(os.environ.get("SHORT"), os.environ.get("SHORT"))
 
 def form(picture, certificate, padding=b""):
     """An upload, as a browser sends it."""
-    parts = (("title", b"Some"), ('picture"; filename="x', picture), ('certificate"; filename="y', certificate), ("more", padding))
-    body = b"".join(b'--%s\r\nContent-Disposition: form-data; name="%s"\r\n\r\n%s\r\n' % (EDGE.encode(), name.encode(), text) for name, text in parts)
+    parts = (
+        ("title", b"Some"),
+        ('picture"; filename="x', picture),
+        ('certificate"; filename="y', certificate),
+        ("more", padding),
+    )
+    body = b"".join(
+        b'--%s\r\nContent-Disposition: form-data; name="%s"\r\n\r\n%s\r\n'
+        % (EDGE.encode(), name.encode(), text)
+        for name, text in parts
+    )
     return body + b"--%s--\r\n" % EDGE.encode()
 
 
@@ -62,7 +71,14 @@ def stat(pid):
 
 def family(pid):
     """A process and its children."""
-    return [pid, *(int(folder.name) for folder in Path("/proc").glob("[0-9]*") if int(stat(folder.name)[1]) == pid)]
+    return [
+        pid,
+        *(
+            int(folder.name)
+            for folder in Path("/proc").glob("[0-9]*")
+            if int(stat(folder.name)[1]) == pid
+        ),
+    ]
 
 
 def processor(pid):
@@ -83,7 +99,13 @@ def waited(pid):
 
 def peak(pid):
     """The most memory that a process has had, in KiB."""
-    return int(next(line.split()[1] for line in Path(f"/proc/{pid}/status").read_text().splitlines() if line.startswith("VmHWM")))
+    return int(
+        next(
+            line.split()[1]
+            for line in Path(f"/proc/{pid}/status").read_text().splitlines()
+            if line.startswith("VmHWM")
+        )
+    )
 
 
 def crowded(port, until):
@@ -126,19 +148,38 @@ class Serving(unittest.TestCase):
         with socket.socket() as free:
             free.bind(("127.0.0.1", 0))
             self.port = free.getsockname()[1]
-        env = {**os.environ, "SITE_LISTEN": f"127.0.0.1:{self.port}", "SITE_DATABASE": os.path.join(folder.name, "puzzles")}
+        env = {
+            **os.environ,
+            "SITE_LISTEN": f"127.0.0.1:{self.port}",
+            "SITE_DATABASE": os.path.join(folder.name, "puzzles"),
+        }
         env["PYTHONPATH"] = f"{HERE}{os.pathsep}{env.get('PYTHONPATH', '')}"
-        words = ["sh", "-c", 'ulimit -S -n 1024; exec "$0" "$@"', sys.executable, *words]  # the usual bound of open files
+        words = [
+            "sh",
+            "-c",
+            'ulimit -S -n 1024; exec "$0" "$@"',
+            sys.executable,
+            *words,
+        ]  # the usual bound of open files
         self.server = subprocess.Popen(words, env=env, stdout=subprocess.PIPE, text=True)
         self.addCleanup(self.server.stdout.close)
         self.addCleanup(self.server.wait)
         self.addCleanup(self.server.kill)
-        self.assertTrue(select.select([self.server.stdout], [], [], STARTING)[0], "the site does not say that it serves")
+        self.assertTrue(
+            select.select([self.server.stdout], [], [], STARTING)[0],
+            "the site does not say that it serves",
+        )
         self.assertEqual(self.server.stdout.readline(), f"Serving on 127.0.0.1:{self.port}\n")
 
     def open_files(self):
         """What the server has open, as the system calls it."""
-        run = subprocess.run(["ls", "-l", f"/proc/{self.server.pid}/fd"], stdout=subprocess.PIPE, stderr=subprocess.DEVNULL, text=True, check=False)
+        run = subprocess.run(
+            ["ls", "-l", f"/proc/{self.server.pid}/fd"],
+            stdout=subprocess.PIPE,
+            stderr=subprocess.DEVNULL,
+            text=True,
+            check=False,
+        )
         return [line.partition(" -> ")[2] for line in run.stdout.splitlines()]
 
     def listed(self):
@@ -150,7 +191,9 @@ class Serving(unittest.TestCase):
         """The status of an upload, and the seconds until it is answered."""
         began = time.monotonic()
         connection = http.client.HTTPConnection("127.0.0.1", self.port, STARTING, (address, 0))
-        connection.request("POST", "/puzzles", body, {"Content-Type": f"multipart/form-data; boundary={EDGE}"})
+        connection.request(
+            "POST", "/puzzles", body, {"Content-Type": f"multipart/form-data; boundary={EDGE}"}
+        )
         status = connection.getresponse().status
         connection.close()
         return status, time.monotonic() - began
@@ -173,7 +216,9 @@ class Serving(unittest.TestCase):
     def test_200_uploads_side_by_side(self):
         made = pairs(100)
         # Each puzzle twice, and some as long as an upload may be.
-        bodies = [form(*pair, b"#" * (1 << 20 if at % 20 == 0 else 0)) for at, pair in enumerate(made * 2)]
+        bodies = [
+            form(*pair, b"#" * (1 << 20 if at % 20 == 0 else 0)) for at, pair in enumerate(made * 2)
+        ]
         spent, idle = processor(self.server.pid), waited(self.server.pid)
         answers = self.bring_all(bodies)
         self.assertEqual(Counter(status for status, _ in answers), {303: 100, 409: 100})
@@ -181,13 +226,18 @@ class Serving(unittest.TestCase):
             self.assertEqual({one[0], other[0]}, {303, 409})
         self.assertEqual(self.listed(), 100)
         self.assertLess(processor(self.server.pid) - spent, SECONDS)
-        self.assertLess(max(seconds for _, seconds in answers), SECONDS + waited(self.server.pid) - idle)
+        self.assertLess(
+            max(seconds for _, seconds in answers), SECONDS + waited(self.server.pid) - idle
+        )
         self.assertLess(sum(map(peak, family(self.server.pid))), MOST_KIB)
 
     def test_slow_clients_hold_nobody_up(self):
         slow = [socket.create_connection(("127.0.0.1", self.port)) for _ in range(300)]
         for at, client in enumerate(slow):
-            client.sendall(b"POST /puzzles HTTP/1.1\r\nHost: x\r\nContent-Length: 1000000\r\n" + (b"\r\n" + b"x" * 400000) * (at % 2))
+            client.sendall(
+                b"POST /puzzles HTTP/1.1\r\nHost: x\r\nContent-Length: 1000000\r\n"
+                + (b"\r\n" + b"x" * 400000) * (at % 2)
+            )
         (pair,) = pairs(1)
         idle = waited(self.server.pid)
         status, seconds = self.bring(form(*pair))
@@ -201,12 +251,20 @@ class Serving(unittest.TestCase):
     @takes_long
     def test_who_opens_many_connections_shuts_nobody_out(self):
         """Those that are silent make room for others, also where each has a file of what it sent."""
-        resource.setrlimit(resource.RLIMIT_NOFILE, (4096, resource.getrlimit(resource.RLIMIT_NOFILE)[1]))
+        resource.setrlimit(
+            resource.RLIMIT_NOFILE, (4096, resource.getrlimit(resource.RLIMIT_NOFILE)[1])
+        )
         (pair,) = pairs(1)
-        for sent in (b"", b"GET / HT", b"POST /puzzles HTTP/1.1\r\nHost: x\r\nContent-Length: 1000000\r\n\r\n" + b"x" * 70000):
+        for sent in (
+            b"",
+            b"GET / HT",
+            b"POST /puzzles HTTP/1.1\r\nHost: x\r\nContent-Length: 1000000\r\n\r\n" + b"x" * 70000,
+        ):
             with self.subTest(sent[:9]), contextlib.ExitStack() as opened:
                 for _ in range(1100):
-                    client = opened.enter_context(socket.create_connection(("127.0.0.1", self.port)))
+                    client = opened.enter_context(
+                        socket.create_connection(("127.0.0.1", self.port))
+                    )
                     client.setblocking(False)
                     client.send(sent)
                 idle = waited(self.server.pid)
@@ -217,11 +275,16 @@ class Serving(unittest.TestCase):
     def test_who_takes_no_answer_makes_room(self):
         """30 clients that read no more than the beginning of a page of 5 MiB, of a site for 10 connections."""
         self.server.kill()
-        self.serve("-c", "import app; app.MOST_OPEN, app.table_of = 10, lambda _: app.Markup('x' * (5 << 20)); app.main()")
+        self.serve(
+            "-c",
+            "import app; app.MOST_OPEN, app.table_of = 10, lambda _: app.Markup('x' * (5 << 20)); app.main()",
+        )
         self.assertEqual(self.bring(form(*pairs(1)[0]))[0], 303)
         with contextlib.ExitStack() as opened:
             for _ in range(30):
-                client = opened.enter_context(socket.create_connection(("127.0.0.1", self.port), STARTING))
+                client = opened.enter_context(
+                    socket.create_connection(("127.0.0.1", self.port), STARTING)
+                )
                 client.sendall(b"GET /puzzles/1 HTTP/1.1\r\nHost: x\r\n\r\n")
                 self.assertEqual(client.recv(9), b"HTTP/1.1 ")
             self.assertEqual(self.listed(), 1)
@@ -232,8 +295,11 @@ class Serving(unittest.TestCase):
     def test_who_takes_an_answer_slowly_gets_it(self):
         """A client that takes 80 KB a second of a page of 4 MiB, for longer than a connection may be silent."""
         self.server.kill()
-        self.serve("-c", "import app, waitress; make, app.table_of = waitress.create_server, lambda _: app.Markup('x' * (4 << 20)); "
-                   "waitress.create_server = lambda *words, **more: make(*words, **{**more, 'channel_timeout': 5, 'cleanup_interval': 1}); app.main()")
+        self.serve(
+            "-c",
+            "import app, waitress; make, app.table_of = waitress.create_server, lambda _: app.Markup('x' * (4 << 20)); "
+            "waitress.create_server = lambda *words, **more: make(*words, **{**more, 'channel_timeout': 5, 'cleanup_interval': 1}); app.main()",
+        )
         self.assertEqual(self.bring(form(*pairs(1)[0]))[0], 303)
         with socket.socket() as client:
             client.setsockopt(socket.SOL_SOCKET, socket.SO_RCVBUF, 1 << 15)
@@ -248,13 +314,21 @@ class Serving(unittest.TestCase):
     def test_few_open_files_are_enough(self):
         """300 clients, each with a file of what it sent, where the site may open 256."""
         self.server.kill()
-        self.serve("-c", "import app, resource; resource.setrlimit(resource.RLIMIT_NOFILE, (256, 256)); app.main()")
+        self.serve(
+            "-c",
+            "import app, resource; resource.setrlimit(resource.RLIMIT_NOFILE, (256, 256)); app.main()",
+        )
         with contextlib.ExitStack() as opened:
             for _ in range(300):
-                client = opened.enter_context(socket.create_connection(("127.0.0.1", self.port), STARTING, ("127.0.0.2", 0)))
+                client = opened.enter_context(
+                    socket.create_connection(("127.0.0.1", self.port), STARTING, ("127.0.0.2", 0))
+                )
                 client.setblocking(False)
                 with contextlib.suppress(OSError):  # it is closed already
-                    client.send(b"POST /puzzles HTTP/1.1\r\nHost: x\r\nContent-Length: 1000000\r\n\r\n" + b"x" * 70000)
+                    client.send(
+                        b"POST /puzzles HTTP/1.1\r\nHost: x\r\nContent-Length: 1000000\r\n\r\n"
+                        + b"x" * 70000
+                    )
             idle, began = waited(self.server.pid), time.monotonic()
             self.assertEqual(self.listed(), 0)
             self.assertLess(time.monotonic() - began, SECONDS + waited(self.server.pid) - idle)
@@ -262,7 +336,9 @@ class Serving(unittest.TestCase):
     @takes_long
     def test_who_asks_much_holds_up_nobody_else(self):
         """560 connections of another address, each with as many requests as it can send."""
-        resource.setrlimit(resource.RLIMIT_NOFILE, (4096, resource.getrlimit(resource.RLIMIT_NOFILE)[1]))
+        resource.setrlimit(
+            resource.RLIMIT_NOFILE, (4096, resource.getrlimit(resource.RLIMIT_NOFILE)[1])
+        )
         made = pairs(200)
         until = threading.Event()
         crowd = threading.Thread(target=crowded, args=(self.port, until), daemon=True)
@@ -273,17 +349,26 @@ class Serving(unittest.TestCase):
         idle = waited(self.server.pid)
         answers = self.bring_all([form(*pair) for pair in made])
         self.assertEqual(Counter(status for status, _ in answers), {303: 200})
-        self.assertLess(max(seconds for _, seconds in answers), SECONDS + waited(self.server.pid) - idle)
+        self.assertLess(
+            max(seconds for _, seconds in answers), SECONDS + waited(self.server.pid) - idle
+        )
 
     def test_uploads_that_wait_shut_nobody_out_of_the_pages(self):
         """60 uploads of as many addresses, to a site for 20 connections whose checks take a minute."""
         self.server.kill()
-        self.serve("-c", "import app, time; app.MOST_OPEN, app.MOST_WAITING = 20, 15; app.Site.store = lambda *_: time.sleep(60); app.main()")
+        self.serve(
+            "-c",
+            "import app, time; app.MOST_OPEN, app.MOST_WAITING = 20, 15; app.Site.store = lambda *_: time.sleep(60); app.main()",
+        )
         body = form(b"x", b"x", b"#" * 70000)
         head = f"POST /puzzles HTTP/1.1\r\nHost: x\r\nContent-Type: multipart/form-data; boundary={EDGE}\r\nContent-Length: {len(body)}\r\n\r\n"
         with contextlib.ExitStack() as opened:
             for at in range(1, 61):
-                client = opened.enter_context(socket.create_connection(("127.0.0.1", self.port), STARTING, (f"127.0.1.{at}", 0)))
+                client = opened.enter_context(
+                    socket.create_connection(
+                        ("127.0.0.1", self.port), STARTING, (f"127.0.1.{at}", 0)
+                    )
+                )
                 with contextlib.suppress(OSError):  # it is closed already
                     client.sendall(head.encode() + body)
             time.sleep(0.5)
@@ -295,11 +380,15 @@ class Serving(unittest.TestCase):
     def test_who_uploads_much_shuts_nobody_out_of_the_workers(self):
         """30 uploads at a time of another address, each of which takes as long as a check may."""
         certificate = b"nonolemma 2\nlemma\ndeny 1 1 a\n%sline r1\ndead c 2\nline r1 r2 c1 c2\n%s"
-        slow = form(DIAGONAL, certificate % (b"deny 1 1 b\n" * 1023, (b"use" + b" 1" * 1000 + b"\n") * 1000))
+        slow = form(
+            DIAGONAL, certificate % (b"deny 1 1 b\n" * 1023, (b"use" + b" 1" * 1000 + b"\n") * 1000)
+        )
         until = threading.Event()
 
         def crowd():
-            with contextlib.suppress(OSError, http.client.HTTPException):  # the server is killed at last
+            with contextlib.suppress(
+                OSError, http.client.HTTPException
+            ):  # the server is killed at last
                 while not until.is_set():
                     self.bring(slow, "127.0.0.2")
 
@@ -313,12 +402,21 @@ class Serving(unittest.TestCase):
         """Headers of blanks or options, for which time grows with the square of the length, and a body in pieces of one byte."""
         front = b"POST /puzzles HTTP/1.1\r\nHost: x\r\n"
         kind = b"Content-Type: multipart/form-data; boundary=x;%s;q\r\n\r\n"
-        for more, status in ((b"a:" + b" \t" * 4000 + b"x\r\n\r\n", b"400"), (b"Transfer-Encoding: chunked\r\n\r\n" + b"1\r\na\r\n" * 9, b"501"),
-                             (b"a: b\r\n" * 2000 + b"\r\n", b"431"), (kind % (b"\xa0" * 8000), b"400"), (kind % (b";x*=" * 1900 + b"'"), b"400")):
+        for more, status in (
+            (b"a:" + b" \t" * 4000 + b"x\r\n\r\n", b"400"),
+            (b"Transfer-Encoding: chunked\r\n\r\n" + b"1\r\na\r\n" * 9, b"501"),
+            (b"a: b\r\n" * 2000 + b"\r\n", b"431"),
+            (kind % (b"\xa0" * 8000), b"400"),
+            (kind % (b";x*=" * 1900 + b"'"), b"400"),
+        ):
             with self.subTest(status), contextlib.ExitStack() as opened:
                 idle, began = waited(self.server.pid), time.monotonic()
                 for _ in range(20):
-                    client = opened.enter_context(socket.create_connection(("127.0.0.1", self.port), STARTING, ("127.0.0.2", 0)))
+                    client = opened.enter_context(
+                        socket.create_connection(
+                            ("127.0.0.1", self.port), STARTING, ("127.0.0.2", 0)
+                        )
+                    )
                     client.sendall(front + more)
                 self.listed()
                 self.assertEqual(client.recv(1 << 16).split()[1], status)
@@ -345,7 +443,9 @@ class Serving(unittest.TestCase):
         (pair,) = pairs(1)
         self.assertEqual(self.bring(form(*pair, b"#" * (3 << 20)))[0], 413)
         with socket.create_connection(("127.0.0.1", self.port), timeout=STARTING) as client:
-            client.sendall(b"POST /puzzles HTTP/1.1\r\nHost: x\r\nContent-Length: 100000000000\r\n\r\nabc")
+            client.sendall(
+                b"POST /puzzles HTTP/1.1\r\nHost: x\r\nContent-Length: 100000000000\r\n\r\nabc"
+            )
             self.assertIn(b" 413 ", client.recv(1 << 16).split(b"\r\n")[0])
         with socket.create_connection(("127.0.0.1", self.port), timeout=STARTING) as client:
             client.sendall(b"GET /puzzles/" + b"1" * 5000 + b" HTTP/1.0\r\n\r\n")
@@ -353,9 +453,18 @@ class Serving(unittest.TestCase):
 
     def test_who_waits_to_go_on_gets_an_answer(self):
         """Also where no body comes, or one that is far too long."""
-        for line, length, status in (("GET /", 0, "200"), ("POST /puzzles", 0, "400"), ("POST /puzzles", 5 << 20, "413"), ("POST /puzzles", 3, "100")):
-            with self.subTest(status), socket.create_connection(("127.0.0.1", self.port), timeout=STARTING) as client:
-                client.sendall(f"{line} HTTP/1.1\r\nHost: x\r\nExpect: 100-continue\r\nContent-Length: {length}\r\n\r\n".encode())
+        for line, length, status in (
+            ("GET /", 0, "200"),
+            ("POST /puzzles", 0, "400"),
+            ("POST /puzzles", 5 << 20, "413"),
+            ("POST /puzzles", 3, "100"),
+        ):
+            with self.subTest(status), socket.create_connection(
+                ("127.0.0.1", self.port), timeout=STARTING
+            ) as client:
+                client.sendall(
+                    f"{line} HTTP/1.1\r\nHost: x\r\nExpect: 100-continue\r\nContent-Length: {length}\r\n\r\n".encode()
+                )
                 self.assertEqual(client.recv(1 << 16).decode().split()[1], status)
 
     def test_an_address_that_is_none_is_refused(self):

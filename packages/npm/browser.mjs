@@ -1,5 +1,6 @@
-// The module for browsers and bundlers: as nonobench.mjs, but `load` needs no bytes, since nonobench.wasm is served beside this file.
-import { load as loadBytes } from './nonobench.mjs';
+// The module for browsers and bundlers: as nonobench.mjs, but `load` needs no bytes, since
+// nonobench.wasm is served beside this file.
+import {load as loadBytes} from './nonobench.mjs';
 
 export * from './nonobench.mjs';
 

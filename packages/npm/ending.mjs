@@ -1,6 +1,9 @@
 // How the program ends without its answer.
 
-/** Why the program ends: `status` is its exit status, and the message all that is said on standard error. */
+/**
+ * Why the program ends: `status` is its exit status, and the message all that is said on standard
+ * error.
+ */
 export class Ending extends Error {
   constructor(status, said) {
     super(said);

@@ -1,6 +1,7 @@
-// The module for node: as nonobench.mjs, but `load` needs no bytes, since nonobench.wasm lies beside this file.
-import { readFile } from 'node:fs/promises';
-import { load as loadBytes } from './nonobench.mjs';
+// The module for node: as nonobench.mjs, but `load` needs no bytes, since nonobench.wasm lies
+// beside this file.
+import {readFile} from 'node:fs/promises';
+import {load as loadBytes} from './nonobench.mjs';
 
 export * from './nonobench.mjs';
 

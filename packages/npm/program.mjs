@@ -1,28 +1,31 @@
 #!/usr/bin/env node
-// The program nonobench over the module: the arguments, the bytes and the statuses of the native one, wherever node runs. Only where
-// an editor changed a certificate, a further line says so.
-import { readFileSync } from 'node:fs';
-import { Ending, ended } from './ending.mjs';
-import { Fault, hintOf } from './nonobench.mjs';
-import { load } from './node.mjs';
-import { eachLine, readFile, readInput, say, write } from './streams.mjs';
-import { readWords } from './words.mjs';
+// The program nonobench over the module: the arguments, the bytes and the statuses of the native
+// one, wherever node runs. Only where an editor changed a certificate, a further line says so.
+import {readFileSync} from 'node:fs';
+import {Ending, ended} from './ending.mjs';
+import {Fault, hintOf} from './nonobench.mjs';
+import {load} from './node.mjs';
+import {eachLine, readFile, readInput, say, write} from './streams.mjs';
+import {readWords} from './words.mjs';
 
 const beside = (name) => JSON.parse(readFileSync(new URL(name, import.meta.url), 'utf8'));
 
 // Checks a certificate: prints what was accepted, or ends.
-async function check({ files, givens, options: { background } }) {
-  const [picture, certificate] = files.map(readFile), published = givens === undefined ? 'any' : readFile(givens);
-  const { accepted, status, text } = (await load()).check(picture, certificate, { background, givens: published });
+async function check({files, givens, options: {background}}) {
+  const [picture, certificate] = files.map(readFile),
+                  published = givens === undefined ? 'any' : readFile(givens);
+  const {accepted, status, text} =
+      (await load()).check(picture, certificate, {background, givens: published});
   const hint = hintOf(text, certificate);
   if (!accepted) throw ended(status, hint ? `${text}\nnonobench: ${hint}` : text);
   write(text);
 }
 
-// The block of a puzzle's file, and its status: 0 if the puzzle is fit, 1 if it is not or is refused, 3 if it could not be read.
+// The block of a puzzle's file, and its status: 0 if the puzzle is fit, 1 if it is not or is
+// refused, 3 if it could not be read.
 function blockOf(engine, path, options) {
   try {
-    const { text, fit } = engine.assess(readFile(path), options);
+    const {text, fit} = engine.assess(readFile(path), options);
     return [text, fit ? 0 : 1];
   } catch (error) {
     if (error instanceof Fault && error.kind === 'open') return [`refused ${error.text}\n`, 1];
@@ -34,62 +37,75 @@ function blockOf(engine, path, options) {
 // A certificate with lemmas in its older form: a step on each line. A tree has that.
 function singleSteps(certificate) {
   if (!certificate.startsWith('nonolemma 2\n')) return certificate;
-  const lines = (line, word, steps) => steps.split(' ').map((step) => `${word} ${word === 'line' ? `${step[0]} ${step.slice(1)}` : step}`).join('\n');
-  return certificate.replace('nonolemma 2', 'nonolemma 1').replace(/^(line|use|drop) (.*)$/gm, lines);
+  const lines = (line, word, steps) => steps.split(' '
+  ).map((step) => `${word} ${word === 'line' ? `${step[0]} ${step.slice(1)}` : step}`)
+                                           .join('\n');
+  return certificate.replace(
+                        'nonolemma 2', 'nonolemma 1'
+  ).replace(/^(line|use|drop) (.*)$/gm, lines);
 }
 
 const TASKS = {
   // The texts were printed by the native program when the package was made.
-  help: async ({ page }) => write(beside('help.json')[page]),
+  help: async ({page}) => write(beside('help.json')[page]),
 
   version: async () => write(`nonobench ${beside('package.json').version}\n`),
 
-  async clues({ options }) {
+  async clues({options}) {
     const picture = readInput();
     write((await load()).clues(picture, options));
   },
 
   check,
 
-  verify: check, // its old name
+  verify: check,  // its old name
 
-  async assess({ files, givens, certificate, options: { format, background, allowance } }) {
-    const [cells, lines] = [givens, certificate].map((path) => (path === undefined ? undefined : readFile(path)));
+  async assess({files, givens, certificate, options: {format, background, allowance}}) {
+    const [cells, lines] =
+        [givens, certificate].map((path) => (path === undefined ? undefined : readFile(path)));
     const engine = await load();
     let worst = 0;
     for (const [at, path] of files.entries()) {
-      const [block, status] = blockOf(engine, path, { format, background, allowance, givens: cells, certificate: lines });
+      const [block, status] =
+          blockOf(engine, path, {format, background, allowance, givens: cells, certificate: lines});
       write(files.length > 1 ? `puzzle ${at + 1}\n${block}` : block);
       worst = Math.max(worst, status);
     }
     if (worst === 3) throw ended(3, 'read failed');
-    if (worst === 1) throw new Ending(1, ''); // the blocks say why
+    if (worst === 1) throw new Ending(1, '');  // the blocks say why
   },
 
-  async prove({ files, givens, complete, options: { background, format } }) {
-    if (givens !== undefined || complete) throw ended(2, 'prove takes --givens and --complete in the native program alone');
-    const { ruling, certificate } = (await load()).prove(readFile(files[0]), { background });
-    write(certificate === null ? `${ruling}\n` : format === '1' ? singleSteps(certificate) : certificate);
-    if (certificate === null) throw new Ending(1, ''); // the word says why
+  async prove({files, givens, complete, options: {background, format}}) {
+    if (givens !== undefined || complete)
+      throw ended(2, 'prove takes --givens and --complete in the native program alone');
+    const {ruling, certificate} = (await load()).prove(readFile(files[0]), {background});
+    write(
+        certificate === null ? `${ruling}\n` :
+            format === '1' ? singleSteps(certificate) :
+                             certificate
+    );
+    if (certificate === null) throw new Ending(1, '');  // the word says why
   },
 
-  async work({ files, options }) {
+  async work({files, options}) {
     const bench = (await load()).open(readFile(files[0]), options);
     eachLine((line) => write(bench.say(line)));
   },
 };
 
-// How the program ends on what was thrown. What nobody expects, such as a module that cannot be loaded, is no refusal.
+// How the program ends on what was thrown. What nobody expects, such as a module that cannot be
+// loaded, is no refusal.
 function endingOf(error) {
   if (error instanceof Ending) return error;
-  return error instanceof Fault ? ended(1, error.text) : ended(3, `the module cannot be used: ${error.message}`);
+  return error instanceof Fault ? ended(1, error.text) :
+                                  ended(3, `the module cannot be used: ${error.message}`);
 }
 
 try {
   const asked = readWords(process.argv.slice(2));
   await TASKS[asked.task](asked);
 } catch (error) {
-  const { message, status } = endingOf(error);
+  const {message, status} = endingOf(error);
   say(message);
   process.exitCode = status;
 }

@@ -1,13 +1,15 @@
-// What the program reads and writes, a call after another, so that a signal from the keyboard ends it as it ends any program.
-import { closeSync, openSync, readSync, writeSync } from 'node:fs';
-import { ended } from './ending.mjs';
+// What the program reads and writes, a call after another, so that a signal from the keyboard ends
+// it as it ends any program.
+import {closeSync, openSync, readSync, writeSync} from 'node:fs';
+import {ended} from './ending.mjs';
 
 // How many bytes an input but a session's has at the most, and how many one read has room for.
 const MOST_BYTES = 16777216;
 const ROOM = 4096;
 const MILLISECONDS = 5;
 
-// How many reads a session makes at the most, and how many bytes of a line are kept: more than a line may have.
+// How many reads a session makes at the most, and how many bytes of a line are kept: more than a
+// line may have.
 const MOST_READS = 1048576;
 const MOST_KEPT = 1024;
 
@@ -30,7 +32,8 @@ function readSome(descriptor, room) {
   try {
     return room.subarray(0, whenReady(() => readSync(descriptor, room, 0, room.length, null)));
   } catch (error) {
-    if (error.code === 'EOF') return room.subarray(0, 0); // the end of the input from a console of Windows
+    if (error.code === 'EOF')
+      return room.subarray(0, 0);  // the end of the input from a console of Windows
     throw ended(3, 'read failed');
   }
 }
@@ -38,7 +41,7 @@ function readSome(descriptor, room) {
 // All bytes of an open file.
 function readWhole(descriptor) {
   const pieces = [], room = Buffer.alloc(16 * ROOM);
-  for (let size = 0; ;) {
+  for (let size = 0;;) {
     const piece = readSome(descriptor, room);
     if (piece.length === 0) return Buffer.concat(pieces);
     size += piece.length;
@@ -68,11 +71,14 @@ export function readFile(path) {
   }
 }
 
-/** Hands the lines of standard input to a call, each as soon as it has come: its bytes with the line feed. */
+/**
+ * Hands the lines of standard input to a call, each as soon as it has come: its bytes with the
+ * line feed.
+ */
 export function eachLine(call) {
   const room = Buffer.alloc(ROOM);
   let begun = Buffer.alloc(0);
-  for (let reads = 0; ; reads += 1) {
+  for (let reads = 0;; reads += 1) {
     if (reads >= MOST_READS) throw ended(3, 'read failed');
     const piece = readSome(0, room);
     if (piece.length === 0) break;

@@ -21,8 +21,9 @@ export function tell(name, value) {
 }
 
 /**
- * Puts off what the eye does not wait for until the next frame is drawn: what it gives may be called often, and `run` is called once
- * behind that frame. A tab in the background draws none, so it runs when the tab is shown again.
+ * Puts off what the eye does not wait for until the next frame is drawn: what it gives may be
+ * called often, and `run` is called once behind that frame. A tab in the background draws none, so
+ * it runs when the tab is shown again.
  */
 export function behindFrame(run) {
   let isAsked = false;

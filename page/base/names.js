@@ -1,12 +1,24 @@
 // Verdicts and grades in words: what they are named inside, in the language of the page.
 
-import { phrase } from '../texts/phrase.js';
-import { capital } from './words.js';
+import {phrase} from '../texts/phrase.js';
+import {capital} from './words.js';
 
 /** @type {Record<string, import('../texts/phrase.js').PlainPhrase>} */
-const GRADES = { __proto__: null, easy: 'base.easy', medium: 'base.medium', hard: 'base.hard', 'very-hard': 'base.veryHard', expert: 'base.expert' };
+const GRADES = {
+  __proto__: null,
+  easy: 'base.easy',
+  medium: 'base.medium',
+  hard: 'base.hard',
+  'very-hard': 'base.veryHard',
+  expert: 'base.expert'
+};
 /** @type {Record<string, import('../texts/phrase.js').PlainPhrase>} */
-const VERDICTS = { __proto__: null, unique: 'base.unique', ambiguous: 'base.ambiguous', undecided: 'base.undecided' };
+const VERDICTS = {
+  __proto__: null,
+  unique: 'base.unique',
+  ambiguous: 'base.ambiguous',
+  undecided: 'base.undecided'
+};
 
 // A library of earlier versions has the word with a blank.
 const keyOf = (word) => word?.replace(' ', '-');
@@ -14,7 +26,9 @@ const keyOf = (word) => word?.replace(' ', '-');
 /** A grade in words, as a library or a sheet shows it. */
 export const gradeName = (word) => (GRADES[keyOf(word)] ? phrase(GRADES[keyOf(word)]) : word);
 
-/** The place of a grade among all, the easiest first, and of a verdict; below 0 for what is none. */
+/**
+ * The place of a grade among all, the easiest first, and of a verdict; below 0 for what is none.
+ */
 export const gradePlace = (word) => Object.keys(GRADES).indexOf(keyOf(word));
 export const verdictPlace = (word) => Object.keys(VERDICTS).indexOf(word);
 
@@ -22,9 +36,18 @@ export const verdictPlace = (word) => Object.keys(VERDICTS).indexOf(word);
 export const verdictName = (word) => (VERDICTS[word] ? phrase(VERDICTS[word]) : word);
 
 /** The signs of verdicts, and a verdict with its sign as a title. */
-export const VERDICT_SIGNS = { __proto__: null, unique: '✓', ambiguous: '≠', undecided: '?' };
+export const VERDICT_SIGNS = {
+  __proto__: null,
+  unique: '✓',
+  ambiguous: '≠',
+  undecided: '?'
+};
 export const verdictTitle = (word) => `${VERDICT_SIGNS[word]} ${capital(verdictName(word))}`;
 
-/** The grade in one line, for a description, and what such a line begins with, in this language or as pages before wrote it. */
-export const gradeLine = (word) => phrase('export.gradeLine', { word: gradeName(word) });
-export const isGradeLine = (line) => line.startsWith('Grade: ') || line.startsWith(phrase('export.gradeLine', { word: '' }));
+/**
+ * The grade in one line, for a description, and what such a line begins with, in this language or
+ * as pages before wrote it.
+ */
+export const gradeLine = (word) => phrase('export.gradeLine', {word: gradeName(word)});
+export const isGradeLine = (line) =>
+    line.startsWith('Grade: ') || line.startsWith(phrase('export.gradeLine', {word: ''}));

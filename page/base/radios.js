@@ -15,12 +15,13 @@ export function radioGroup(group, pick) {
     if (button) pick(button);
   });
   group.addEventListener('keydown', (event) => {
-    const way = { ArrowDown: 1, ArrowRight: 1, ArrowUp: -1, ArrowLeft: -1 }[event.key];
+    const way = {ArrowDown: 1, ArrowRight: 1, ArrowUp: -1, ArrowLeft: -1}[event.key];
     if (!way) return;
     const buttons = [...group.querySelectorAll('button')];
     event.preventDefault();
     event.stopPropagation();
-    const next = buttons.at((buttons.indexOf(event.target.closest('button')) + way) % buttons.length);
+    const next =
+        buttons.at((buttons.indexOf(event.target.closest('button')) + way) % buttons.length);
     pick(next);
     next.focus();
   });

@@ -1,9 +1,11 @@
 // Colours as the screen has them.
 
 /** A triple as eight-bit samples. */
-export const eightBits = (triple, maxval) => triple.map((sample) => Math.round((sample * 255) / maxval));
+export const eightBits = (triple, maxval) =>
+    triple.map((sample) => Math.round((sample * 255) / maxval));
 export const cssOf = (triple, maxval) => `rgb(${eightBits(triple, maxval).join(' ')})`;
-export const hexOf = (triple, maxval) => '#' + eightBits(triple, maxval).map((sample) => sample.toString(16).padStart(2, '0')).join('');
+export const hexOf = (triple, maxval) =>
+    '#' + eightBits(triple, maxval).map((sample) => sample.toString(16).padStart(2, '0')).join('');
 export const tripleOf = (hex) => [1, 3, 5].map((at) => parseInt(hex.slice(at, at + 2), 16));
 
 /** Black or white, whichever is read more easily on a colour. */
@@ -16,16 +18,18 @@ export function inkOn(triple, maxval) {
 export const isSame = (one, other) => one.join() === other.join();
 export const isAmong = (triples, triple) => triples.some((one) => isSame(one, triple));
 
-export const plainHexOf = (triple) => triple.map((sample) => sample.toString(16).padStart(2, '0')).join('');
+export const plainHexOf = (triple) =>
+    triple.map((sample) => sample.toString(16).padStart(2, '0')).join('');
 
 // Light of a sample from 0 to 1, and back (IEC 61966-2-1, sRGB).
-export const LIGHT_OF = Float64Array.from({ length: 256 }, (_, sample) => {
+export const LIGHT_OF = Float64Array.from({length: 256}, (_, sample) => {
   const value = sample / 255;
   return value <= 0.04045 ? value / 12.92 : ((value + 0.055) / 1.055) ** 2.4;
 });
 
 /** The sample of a light. */
-export const sampleOf = (light) => Math.round(255 * (light <= 0.0031308 ? light * 12.92 : 1.055 * light ** (1 / 2.4) - 0.055));
+export const sampleOf = (light) =>
+    Math.round(255 * (light <= 0.0031308 ? light * 12.92 : 1.055 * light ** (1 / 2.4) - 0.055));
 
 /**
  * A triple of eight bits in Oklab (Ottosson, 2020), where equal steps look equal.
@@ -45,7 +49,8 @@ export function oklabOf(red, green, blue) {
 
 /** The contrast of two triples of eight bits, from 1 to 21 (WCAG 2). */
 export function contrastOf(one, other) {
-  const light = ([red, green, blue]) => 0.2126 * LIGHT_OF[red] + 0.7152 * LIGHT_OF[green] + 0.0722 * LIGHT_OF[blue] + 0.05;
+  const light = ([red, green, blue]) =>
+      0.2126 * LIGHT_OF[red] + 0.7152 * LIGHT_OF[green] + 0.0722 * LIGHT_OF[blue] + 0.05;
   const [a, b] = [light(one), light(other)];
   return Math.max(a, b) / Math.min(a, b);
 }
@@ -56,7 +61,10 @@ export function contrastOf(one, other) {
  */
 export const lightness = (triple) => 255 * oklabOf(triple[0], triple[1], triple[2])[0];
 
-/** A light tint of a triple of eight bits, on which black is read easily: the darker the triple, the more white is in it. */
+/**
+ * A light tint of a triple of eight bits, on which black is read easily: the darker the triple,
+ * the more white is in it.
+ */
 export function tintOf(triple) {
   const share = 0.2 + 0.45 * (lightness(triple) / 255) ** 4;
   return triple.map((sample) => Math.round(255 - (255 - sample) * share));

@@ -1,6 +1,7 @@
 // Colours by the names that CSS has for them (CSS Color 4), and by their digits.
 
-const NAMED = `aliceblue f0f8ff antiquewhite faebd7 aqua 00ffff aquamarine 7fffd4 azure f0ffff beige f5f5dc bisque ffe4c4 black 000000 blanchedalmond ffebcd blue 0000ff blueviolet 8a2be2 brown a52a2a
+const NAMED =
+    `aliceblue f0f8ff antiquewhite faebd7 aqua 00ffff aquamarine 7fffd4 azure f0ffff beige f5f5dc bisque ffe4c4 black 000000 blanchedalmond ffebcd blue 0000ff blueviolet 8a2be2 brown a52a2a
 burlywood deb887 cadetblue 5f9ea0 chartreuse 7fff00 chocolate d2691e coral ff7f50 cornflowerblue 6495ed cornsilk fff8dc crimson dc143c cyan 00ffff darkblue 00008b darkcyan 008b8b darkgoldenrod b8860b
 darkgray a9a9a9 darkgreen 006400 darkkhaki bdb76b darkmagenta 8b008b darkolivegreen 556b2f darkorange ff8c00 darkorchid 9932cc darkred 8b0000 darksalmon e9967a darkseagreen 8fbc8f darkslateblue 483d8b
 darkslategray 2f4f4f darkturquoise 00ced1 darkviolet 9400d3 deeppink ff1493 deepskyblue 00bfff dimgray 696969 dodgerblue 1e90ff firebrick b22222 floralwhite fffaf0 forestgreen 228b22 fuchsia ff00ff
@@ -15,16 +16,23 @@ snow fffafa springgreen 00ff7f steelblue 4682b4 tan d2b48c teal 008080 thistle d
 
 const tripleOfDigits = (digits) => [0, 2, 4].map((at) => parseInt(digits.slice(at, at + 2), 16));
 const words = NAMED.split(/\s+/);
-const triples = new Map(Array.from({ length: words.length / 2 }, (_, at) => [words[2 * at], tripleOfDigits(words[2 * at + 1])]));
+const triples = new Map(Array.from(
+    {length: words.length / 2}, (_, at) => [words[2 * at], tripleOfDigits(words[2 * at + 1])]
+));
 
 /** The names that there are. */
 export const COLOUR_NAMES = [...triples.keys()];
 
-/** The triple of a colour by its name, in any case and with blanks or not, or by three or six digits; null where there is none. */
+/**
+ * The triple of a colour by its name, in any case and with blanks or not, or by three or six
+ * digits; null where there is none.
+ */
 export function colourNamed(text) {
   const word = text.toLowerCase().replace(/[\s_-]/g, '').replace('grey', 'gray');
   const digits = /^#?([0-9a-f]{6}|[0-9a-f]{3})$/.exec(word)?.[1];
   if (triples.has(word)) return [...triples.get(word)];
   if (!digits) return null;
-  return tripleOfDigits(digits.length === 3 ? [...digits].map((one) => one + one).join('') : digits);
+  return tripleOfDigits(
+      digits.length === 3 ? [...digits].map((one) => one + one).join('') : digits
+  );
 }

@@ -1,8 +1,9 @@
-// The cells on their canvas: only those are drawn whose look has changed. A cell's look is a number: its letter, whether it
-// is hatched, the other picture's letter, whether it is given or locked. The lines between cells lie beside them and stay.
+// The cells on their canvas: only those are drawn whose look has changed. A cell's look is a
+// number: its letter, whether it is hatched, the other picture's letter, whether it is given or
+// locked. The lines between cells lie beside them and stay.
 
-import { drawGiven, drawRules, drawSign, edges } from './board.js';
-import { CanvasSurface } from './surface.js';
+import {drawGiven, drawRules, drawSign, edges} from './board.js';
+import {CanvasSurface} from './surface.js';
 
 export const RIVAL = 1 << 8;
 export const HATCHED = 1 << 4;
@@ -12,7 +13,7 @@ export const LOCKED = 1 << 17;
 export class Cells {
   constructor(canvas) {
     this.canvas = canvas;
-    this.pen = canvas.getContext('2d', { alpha: false });
+    this.pen = canvas.getContext('2d', {alpha: false});
     this.surface = new CanvasSurface(this.pen);
     this.drawn = new Int32Array(0);
     this.tile = null;
@@ -20,8 +21,8 @@ export class Cells {
 
   /** Draws all that is seen anew. */
   all(sheet) {
-    const { pen } = this;
-    const { geometry: at } = sheet;
+    const {pen} = this;
+    const {geometry: at} = sheet;
     pen.fillStyle = sheet.inks.paper;
     pen.fillRect(0, 0, at.width, at.height);
     this.drawn = new Int32Array(at.rows * at.columns).fill(-1);
@@ -35,15 +36,16 @@ export class Cells {
   /** Draws the cells whose look is another one; `clipped` where the room is set already. */
   changed(sheet, clipped = false) {
     if (!this.look) return;
-    const { top, left, bottom, right } = sheet.geometry.seen();
-    const { columns } = sheet.geometry;
+    const {top, left, bottom, right} = sheet.geometry.seen();
+    const {columns} = sheet.geometry;
     if (!clipped) this.clip(sheet);
     for (let row = top; row <= bottom; row++) {
       for (let col = left; col <= right; col++) {
         const look = sheet.lookOf(row, col);
         if (look === this.drawn[row * columns + col]) continue;
         let end = col + 1;
-        if (look < HATCHED || this.isSmall) while (end <= right && sheet.lookOf(row, end) === look) end++;
+        if (look < HATCHED || this.isSmall)
+          while (end <= right && sheet.lookOf(row, end) === look) end++;
         this.span(sheet, row, col, end, look);
         this.drawn.fill(look, row * columns + col, row * columns + end);
         col = end - 1;
@@ -55,8 +57,8 @@ export class Cells {
   /** Draws some cells, given by their places. */
   some(sheet, places) {
     if (!this.look) return;
-    const { top, left, bottom, right } = sheet.geometry.seen();
-    const { columns } = sheet.geometry;
+    const {top, left, bottom, right} = sheet.geometry.seen();
+    const {columns} = sheet.geometry;
     this.clip(sheet);
     for (const index of places) {
       const [row, col] = [Math.floor(index / columns), index % columns];
@@ -70,7 +72,7 @@ export class Cells {
   }
 
   clip(sheet) {
-    const { geometry: at } = sheet;
+    const {geometry: at} = sheet;
     this.pen.save();
     this.pen.beginPath();
     this.pen.rect(at.originX - 1, at.originY - 1, at.width, at.height);
@@ -79,7 +81,7 @@ export class Cells {
 
   // What holds for all cells of one size.
   prepare(sheet) {
-    const { geometry: at, look } = sheet;
+    const {geometry: at, look} = sheet;
     this.look = look;
     this.isSmall = !look.thin;
     this.hasLetters = look.signs && at.cell >= 10 * at.scale;
@@ -94,7 +96,10 @@ export class Cells {
     this.tile = new OffscreenCanvas(side, side);
     const pen = this.tile.getContext('2d');
     pen.scale(side / 6, side / 6);
-    for (const { ink, shift } of [{ ink: 'rgb(255 255 255 / 75%)', shift: 1.4 }, { ink: 'rgb(0 0 0 / 60%)', shift: 0 }]) {
+    for (const {
+           ink,
+           shift
+         } of [{ink: 'rgb(255 255 255 / 75%)', shift: 1.4}, {ink: 'rgb(0 0 0 / 60%)', shift: 0}]) {
       pen.strokeStyle = ink;
       pen.lineWidth = 1.1;
       pen.beginPath();
@@ -108,11 +113,12 @@ export class Cells {
   }
 
   span(sheet, row, col, end, look) {
-    const { geometry: at } = sheet;
+    const {geometry: at} = sheet;
     const [y, high] = edges(this.look, row, row + 1, at.y(0), at.cell, at.rows);
     // A run of one look is filled at once where no lines stand between; else cell by cell.
     const step = this.isSmall ? 5 - (col % 5) : 1;
-    for (let from = col, next = Math.min(end, col + step); from < end; from = next, next = Math.min(end, next + (this.isSmall ? 5 : 1))) {
+    for (let from = col, next = Math.min(end, col + step); from < end;
+         from = next, next = Math.min(end, next + (this.isSmall ? 5 : 1))) {
       const [x, wide] = edges(this.look, from, next, at.x(0), at.cell, at.columns);
       this.pen.fillStyle = this.look.fills[look & 15] ?? '#888';
       this.pen.fillRect(x, y, wide, high);
@@ -121,7 +127,10 @@ export class Cells {
         this.pen.fillStyle = this.hatching;
         this.pen.fillRect(x, y, wide, high);
       }
-      for (let one = from; one < next; one++) this.more(sheet, look, [edges(this.look, one, one + 1, at.x(0), at.cell, at.columns), [y, high]]);
+      for (let one = from; one < next; one++)
+        this.more(
+            sheet, look, [edges(this.look, one, one + 1, at.x(0), at.cell, at.columns), [y, high]]
+        );
     }
   }
 
@@ -135,8 +144,8 @@ export class Cells {
 
   // The other picture's colour in the lower corner, and a frame.
   rival(sheet, letter, x, y, wide, high) {
-    const { pen } = this;
-    const { scale } = sheet.geometry;
+    const {pen} = this;
+    const {scale} = sheet.geometry;
     pen.beginPath();
     pen.moveTo(x + wide, y + high * 0.12);
     pen.lineTo(x + wide, y + high);
@@ -151,23 +160,24 @@ export class Cells {
   }
 
   letter(sheet, at, rival, x, y, wide, high) {
-    const { geometry } = sheet;
-    const size = Math.min(14 * geometry.scale, Math.floor(geometry.cell * (rival >= 0 ? 0.42 : 0.62)));
+    const {geometry} = sheet;
+    const size =
+        Math.min(14 * geometry.scale, Math.floor(geometry.cell * (rival >= 0 ? 0.42 : 0.62)));
     if (rival < 0) {
-      if (at > 0) drawSign(this.surface, this.look, at, { x: x + wide / 2, y: y + high / 2, size });
+      if (at > 0) drawSign(this.surface, this.look, at, {x: x + wide / 2, y: y + high / 2, size});
       return;
     }
-    drawSign(this.surface, this.look, at, { x: x + wide * 0.3, y: y + high * 0.33, size });
-    drawSign(this.surface, this.look, rival, { x: x + wide * 0.7, y: y + high * 0.68, size });
+    drawSign(this.surface, this.look, at, {x: x + wide * 0.3, y: y + high * 0.33, size});
+    drawSign(this.surface, this.look, rival, {x: x + wide * 0.7, y: y + high * 0.68, size});
   }
 
   // A lock: a small square with a bow, at the lower left.
   locked(x, y, high) {
-    const { pen } = this;
+    const {pen} = this;
     const side = Math.max(2, high * 0.26);
     const [left, top] = [x + high * 0.08, y + high * 0.92 - side * 0.7];
     pen.lineWidth = Math.max(1, side * 0.16);
-    for (const { ink, grow } of [{ ink: '#fff', grow: 1 }, { ink: '#1a1a1a', grow: 0 }]) {
+    for (const {ink, grow} of [{ink: '#fff', grow: 1}, {ink: '#1a1a1a', grow: 0}]) {
       pen.strokeStyle = pen.fillStyle = ink;
       pen.beginPath();
       pen.arc(left + side / 2, top, side * 0.28 + grow * 0.5, Math.PI, 0);

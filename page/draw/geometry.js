@@ -1,34 +1,48 @@
-// Where cells and clues lie: the size of a cell, how far the picture is moved, and how much room clues take. All lengths are
-// pixels of the screen (not of the page), so that lines fall on whole pixels. Where a picture does not fit beside its clues, Fit
-// folds these to edges.
+// Where cells and clues lie: the size of a cell, how far the picture is moved, and how much room
+// clues take. All lengths are pixels of the screen (not of the page), so that lines fall on whole
+// pixels. Where a picture does not fit beside its clues, Fit folds these to edges.
 
-import { clamp } from '../base/words.js';
+import {clamp} from '../base/words.js';
 
-const SMALLEST = 3; // a cell's side in the page's pixels
+const SMALLEST = 3;  // a cell's side in the page's pixels
 const LARGEST = 64;
 const MARGIN = 6;
-const FEW = 4; // blocks of a clue for which a picture that is fitted has room, however short its clues and lines are
-const AROUND = 14; // the page's pixels around the blocks of a clue: some more than the strips leave free
-const EDGES = { left: 23, top: 17 }; // the page's pixels of clues that are folded: room for the numbers of lines
+const FEW = 4;  // blocks of a clue for which a picture that is fitted has room, however short its
+                // clues and lines are
+const AROUND =
+    14;  // the page's pixels around the blocks of a clue: some more than the strips leave free
+const EDGES = {
+  left: 23,
+  top: 17
+};  // the page's pixels of clues that are folded: room for the numbers of lines
 
 export class Geometry {
   constructor() {
-    this.scale = 1; // pixels of the screen for one of the page
+    this.scale = 1;  // pixels of the screen for one of the page
     this.width = this.height = 0;
     this.rows = this.columns = 1;
     this.cell = 16;
-    this.left = this.top = 40; // room for the clues
-    this.panX = this.panY = 0; // how far the picture is moved to the left and up
-    this.slack = { x: 0, y: 0 }; // free room at the left and above the clues
+    this.left = this.top = 40;  // room for the clues
+    this.panX = this.panY = 0;  // how far the picture is moved to the left and up
+    this.slack = {x: 0, y: 0};  // free room at the left and above the clues
     this.isFitted = true;
-    this.isFolded = false; // whether clues are edges with numbers of lines alone
+    this.isFolded = false;  // whether clues are edges with numbers of lines alone
     this.letters = false;
-    this.rowSizes = []; // of each clue: {signs, blocks}, measured once it changes
+    this.rowSizes = [];  // of each clue: {signs, blocks}, measured once it changes
     this.columnSizes = [];
   }
 
   measure(clues, changed = null) {
-    const sizes = (blocks) => ({ blocks: blocks.length, signs: blocks.reduce((sum, block) => sum + (block.length > 99 ? 3 : block.length > 9 ? 2 : 1), 0) });
+    const sizes = (blocks) => ({
+      blocks: blocks.length,
+      signs: blocks.reduce(
+          (sum, block) => sum +
+              (block.length > 99    ? 3 :
+                   block.length > 9 ? 2 :
+                                      1),
+          0
+      )
+    });
     if (!changed) {
       this.rowSizes = clues.rows.map(sizes);
       this.columnSizes = clues.columns.map(sizes);
@@ -46,24 +60,35 @@ export class Geometry {
 
   pitchFor(cell) {
     const font = this.fontFor(cell);
-    return Math.round(cell < 10 * this.scale ? Math.max(cell, font + 1) : font + (cell < 18 * this.scale ? 2 : 5) * this.scale);
+    return Math.round(
+        cell < 10 * this.scale ? Math.max(cell, font + 1) :
+                                 font + (cell < 18 * this.scale ? 2 : 5) * this.scale
+    );
   }
 
   chipWidth(signs, font) {
     return Math.round((signs + (this.letters ? 1 : 0)) * font * 0.62 + font / 2);
   }
 
-  // How much room all clues want with a cell of this size, at most a part of what there is. `spare` blocks more may come, and where
-  // they may, a quarter of what a line has cells: drawn narrower, clues of twice as many blocks have room there.
+  // How much room all clues want with a cell of this size, at most a part of what there is. `spare`
+  // blocks more may come, and where they may, a quarter of what a line has cells: drawn narrower,
+  // clues of twice as many blocks have room there.
   room(cell, spare = 1) {
     const font = this.fontFor(cell);
     const isTiny = cell < 7 * this.scale;
     const tick = 4 * this.scale;
-    const one = (size) => (isTiny ? size.blocks * (tick + 2) : size.signs * font * 0.62 + size.blocks * ((this.letters ? 0.62 : 0) * font + font / 2 + 2.5)); // a block's width is rounded
-    const few = (length) => (spare ? Math.max(Math.min(FEW, Math.ceil(length / 2)), Math.ceil(length / 4) + 1) : 0);
-    const [block, across, down] = [one({ blocks: 1, signs: 1 }), few(this.columns), few(this.rows)];
+    const one = (size) =>
+        (isTiny ? size.blocks * (tick + 2) :
+                  size.signs * font * 0.62 +
+                 size.blocks * ((this.letters ? 0.62 : 0) * font + font / 2 + 2.5)
+        );  // a block's width is rounded
+    const few = (length) =>
+        (spare ? Math.max(Math.min(FEW, Math.ceil(length / 2)), Math.ceil(length / 4) + 1) : 0);
+    const [block, across, down] = [one({blocks: 1, signs: 1}), few(this.columns), few(this.rows)];
     const most = Math.max(across * block, Math.max(0, ...this.rowSizes.map(one)) + spare * block);
-    const tall = Math.max(down, Math.max(0, ...this.columnSizes.map((size) => size.blocks)) + spare) * ((isTiny ? tick : this.pitchFor(cell)) + 1);
+    const tall =
+        Math.max(down, Math.max(0, ...this.columnSizes.map((size) => size.blocks)) + spare) *
+        ((isTiny ? tick : this.pitchFor(cell)) + 1);
     const bound = isTiny ? 0.2 : this.width < 600 * this.scale ? 0.28 : 0.34;
     return {
       left: Math.ceil(clamp(most + AROUND * this.scale, 26 * this.scale, this.width * bound)),
@@ -78,24 +103,32 @@ export class Geometry {
 
   // How much room the edges take that clues are folded to.
   edges() {
-    return { left: Math.round(EDGES.left * this.scale), top: Math.round(EDGES.top * this.scale) };
+    return {left: Math.round(EDGES.left * this.scale), top: Math.round(EDGES.top * this.scale)};
   }
 
-  /** The largest cell with which all is seen, and whether the clues are folded for it: only where three pixels are too many else. */
+  /**
+   * The largest cell with which all is seen, and whether the clues are folded for it: only where
+   * three pixels are too many else.
+   */
   fitting() {
     for (let side = LARGEST; side >= SMALLEST; side--) {
       const cell = Math.round(side * this.scale);
-      const { left, top } = this.room(cell);
-      if (left + this.columns * cell + MARGIN <= this.width && top + this.rows * cell + MARGIN <= this.height) return { cell, isFolded: false };
+      const {left, top} = this.room(cell);
+      if (left + this.columns * cell + MARGIN <= this.width &&
+          top + this.rows * cell + MARGIN <= this.height)
+        return {cell, isFolded: false};
     }
-    const { left, top } = this.edges();
+    const {left, top} = this.edges();
     const margin = MARGIN * this.scale;
-    const most = Math.min((this.width - left - margin) / this.columns, (this.height - top - margin) / this.rows);
-    return { cell: Math.floor(clamp(most, 1, this.least)), isFolded: true };
+    const most = Math.min(
+        (this.width - left - margin) / this.columns, (this.height - top - margin) / this.rows
+    );
+    return {cell: Math.floor(clamp(most, 1, this.least)), isFolded: true};
   }
 
   resize(width, height, scale) {
-    [this.width, this.height, this.scale] = [Math.round(width * scale), Math.round(height * scale), scale];
+    [this.width, this.height, this.scale] =
+        [Math.round(width * scale), Math.round(height * scale), scale];
   }
 
   /** Shows the whole picture. */
@@ -107,7 +140,10 @@ export class Geometry {
     this.clamp();
   }
 
-  /** Keeps the cells as they are where the room or the clues are others; with `isFitted` the whole picture is shown. */
+  /**
+   * Keeps the cells as they are where the room or the clues are others; with `isFitted` the whole
+   * picture is shown.
+   */
   refit(isFitted = this.isFitted) {
     if (isFitted) return this.fit();
     this.spread();
@@ -120,16 +156,20 @@ export class Geometry {
     this.pitch = this.pitchFor(this.cell);
     // A picture smaller than its room stands in the middle, somewhat above it.
     const free = (room, length) => Math.max(0, room - length - MARGIN);
-    this.slack = { x: Math.floor(free(this.width - this.left, this.columns * this.cell) / 2), y: Math.floor(free(this.height - this.top, this.rows * this.cell) / 3) };
+    this.slack = {
+      x: Math.floor(free(this.width - this.left, this.columns * this.cell) / 2),
+      y: Math.floor(free(this.height - this.top, this.rows * this.cell) / 3)
+    };
   }
 
   /**
-   * Makes room where clues have grown, beside cells that stay where they are: of the free room first. Where a picture that is fitted has
-   * none, clues are drawn narrower. Answers whether anything is drawn elsewhere.
+   * Makes room where clues have grown, beside cells that stay where they are: of the free room
+   * first. Where a picture that is fitted has none, clues are drawn narrower. Answers whether
+   * anything is drawn elsewhere.
    */
   grow() {
     if (this.isFolded) return false;
-    const { left, top } = this.room(this.cell, 0);
+    const {left, top} = this.room(this.cell, 0);
     let [more, higher] = [Math.max(0, left - this.left), Math.max(0, top - this.top)];
     if (!more && !higher) return false;
     if (this.isFitted) {
@@ -139,7 +179,7 @@ export class Geometry {
     this.top += higher;
     this.panX += Math.max(0, more - this.slack.x);
     this.panY += Math.max(0, higher - this.slack.y);
-    this.slack = { x: Math.max(0, this.slack.x - more), y: Math.max(0, this.slack.y - higher) };
+    this.slack = {x: Math.max(0, this.slack.x - more), y: Math.max(0, this.slack.y - higher)};
     return more > 0 || higher > 0;
   }
 
@@ -149,10 +189,13 @@ export class Geometry {
     return next >= this.least ? next : way > 0 ? this.least : 1;
   }
 
-  /** Zooms so that the place under a point of the view stays there; further out than that goes, to Fit where it folds the clues. */
+  /**
+   * Zooms so that the place under a point of the view stays there; further out than that goes, to
+   * Fit where it folds the clues.
+   */
   zoom(cell, x = (this.width + this.left) / 2, y = (this.height + this.top) / 2) {
     const [before, was] = [this.cell, this.isFolded];
-    const fit = cell < this.least ? this.fitting() : { isFolded: false };
+    const fit = cell < this.least ? this.fitting() : {isFolded: false};
     if (fit.isFolded && cell - fit.cell < this.least - cell) {
       this.fit();
       return !was;
@@ -174,11 +217,14 @@ export class Geometry {
     this.clamp();
   }
 
-  // Where the picture is smaller than its room it stays; else an edge comes no further than its margin.
+  // Where the picture is smaller than its room it stays; else an edge comes no further than its
+  // margin.
   clamp() {
     const over = (length, room) => Math.max(0, length + MARGIN * this.scale - room);
-    this.panX = Math.round(clamp(this.panX, 0, over(this.columns * this.cell, this.width - this.left)));
-    this.panY = Math.round(clamp(this.panY, 0, over(this.rows * this.cell, this.height - this.top)));
+    this.panX =
+        Math.round(clamp(this.panX, 0, over(this.columns * this.cell, this.width - this.left)));
+    this.panY =
+        Math.round(clamp(this.panY, 0, over(this.rows * this.cell, this.height - this.top)));
   }
 
   // The edges of the room of the cells.
@@ -208,24 +254,35 @@ export class Geometry {
     };
   }
 
-  /** What lies at a point: a cell, the clue of a row or a column, or nothing; with the nearest cell. */
+  /**
+   * What lies at a point: a cell, the clue of a row or a column, or nothing; with the nearest
+   * cell.
+   */
   at(x, y) {
-    const [down, across] = [Math.floor((y - this.y(0)) / this.cell), Math.floor((x - this.x(0)) / this.cell)];
+    const [down, across] =
+        [Math.floor((y - this.y(0)) / this.cell), Math.floor((x - this.x(0)) / this.cell)];
     const [row, col] = [clamp(down, 0, this.rows - 1), clamp(across, 0, this.columns - 1)];
     const [overLeft, overTop] = [x < this.originX, y < this.originY];
     const [inRows, inColumns] = [down === row, across === col];
-    const part = !overLeft && !overTop && inRows && inColumns ? 'cell' : overLeft && !overTop && inRows ? 'row' : overTop && !overLeft && inColumns ? 'column' : 'none';
-    return { part, row, col };
+    const part = !overLeft && !overTop && inRows && inColumns ? 'cell' :
+        overLeft && !overTop && inRows                        ? 'row' :
+        overTop && !overLeft && inColumns                     ? 'column' :
+                                                                'none';
+    return {part, row, col};
   }
 
   /** Moves the picture until a cell is seen whole. */
   reveal(row, col) {
     const [x, y, room] = [this.x(col), this.y(row), this.cell];
     let [dx, dy] = [0, 0];
-    if (x < this.originX + room) dx = x - this.originX - room;
-    else if (x + 2 * room > this.width) dx = x + 2 * room - this.width;
-    if (y < this.originY + room) dy = y - this.originY - room;
-    else if (y + 2 * room > this.height) dy = y + 2 * room - this.height;
+    if (x < this.originX + room)
+      dx = x - this.originX - room;
+    else if (x + 2 * room > this.width)
+      dx = x + 2 * room - this.width;
+    if (y < this.originY + room)
+      dy = y - this.originY - room;
+    else if (y + 2 * room > this.height)
+      dy = y + 2 * room - this.height;
     const [beforeX, beforeY] = [this.panX, this.panY];
     this.pan(dx, dy);
     return this.panX !== beforeX || this.panY !== beforeY;
@@ -233,6 +290,8 @@ export class Geometry {
 
   /** Brings a cell to the middle. */
   centre(row, col) {
-    this.pan(this.x(col) - (this.width + this.left) / 2, this.y(row) - (this.height + this.top) / 2);
+    this.pan(
+        this.x(col) - (this.width + this.left) / 2, this.y(row) - (this.height + this.top) / 2
+    );
   }
 }

@@ -1,41 +1,64 @@
-// Marks over the cells: a reason with its premises, a selection, the rubber of a drag, the axes of symmetric pens.
+// Marks over the cells: a reason with its premises, a selection, the rubber of a drag, the axes of
+// symmetric pens.
 
-import { HOLE, boxAround, shapeOf } from '../document/regions.js';
-import { isPossible } from '../document/symmetry.js';
-import { CanvasSurface } from './surface.js';
+import {HOLE, boxAround, shapeOf} from '../document/regions.js';
+import {isPossible} from '../document/symmetry.js';
+import {CanvasSurface} from './surface.js';
 
-/** Draws a line that is seen on any colour: white, and then less wide in an ink, which may be dashed. `widths` and `dash` are in pixels of the page. */
-export function drawTwice(pen, scale, widths, { ink, dash = [] }, stroke) {
+/**
+ * Draws a line that is seen on any colour: white, and then less wide in an ink, which may be
+ * dashed. `widths` and `dash` are in pixels of the page.
+ */
+export function drawTwice(pen, scale, widths, {ink, dash = []}, stroke) {
   for (const [strokeStyle, wide, dashes] of [['#fff', widths[0], []], [ink, widths[1], dash]]) {
-    Object.assign(pen, { strokeStyle, lineWidth: wide * scale }).setLineDash(dashes.map((one) => one * scale));
+    Object.assign(
+              pen, {strokeStyle, lineWidth: wide * scale}
+    ).setLineDash(dashes.map((one) => one * scale));
     stroke();
   }
   pen.setLineDash([]);
 }
 
 function ringAround(pen, sheet, row, col, ink, dash, grow) {
-  const { geometry: at } = sheet;
+  const {geometry: at} = sheet;
   const side = at.cell + 2 * grow;
-  drawTwice(pen, at.scale, [4.5, 2.5], { ink, dash }, () => pen.strokeRect(at.x(col) - grow, at.y(row) - grow, side, side));
+  drawTwice(
+      pen,
+      at.scale,
+      [4.5, 2.5],
+      {ink, dash},
+      () => pen.strokeRect(at.x(col) - grow, at.y(row) - grow, side, side)
+  );
 }
 
 // The line of a reason, its premises and the cell that was asked about.
 function drawReason(pen, sheet) {
-  const { geometry: at, reason, state } = sheet;
+  const {geometry: at, reason, state} = sheet;
   if (reason.word === 'by') {
     const across = reason.axis === 'r';
     const line = reason.at - 1;
     pen.lineWidth = 3 * at.scale;
     pen.strokeStyle = sheet.inks.accent;
-    if (across) pen.strokeRect(at.x(0) - 1, at.y(line) - 1, state.columns * at.cell + 2, at.cell + 2);
-    else pen.strokeRect(at.x(line) - 1, at.y(0) - 1, at.cell + 2, state.rows * at.cell + 2);
-    for (const premise of reason.premises) ringAround(pen, sheet, across ? line : premise.at - 1, across ? premise.at - 1 : line, sheet.inks.accent, [3, 2], -1);
+    if (across)
+      pen.strokeRect(at.x(0) - 1, at.y(line) - 1, state.columns * at.cell + 2, at.cell + 2);
+    else
+      pen.strokeRect(at.x(line) - 1, at.y(0) - 1, at.cell + 2, state.rows * at.cell + 2);
+    for (const premise of reason.premises)
+      ringAround(
+          pen,
+          sheet,
+          across ? line : premise.at - 1,
+          across ? premise.at - 1 : line,
+          sheet.inks.accent,
+          [3, 2],
+          -1
+      );
   }
   ringAround(pen, sheet, reason.row, reason.col, sheet.inks.alarm, [], 1);
 }
 
 // The sides of a shape's cells beyond which there is none of it.
-function edgesOf(path, at, { top, left }, shape) {
+function edgesOf(path, at, {top, left}, shape) {
   const has = (row, col) => (shape[row]?.[col] ?? HOLE) !== HOLE;
   const side = (x, y, toX, toY) => {
     path.moveTo(at.x(left + x), at.y(top + y));
@@ -49,35 +72,54 @@ function edgesOf(path, at, { top, left }, shape) {
   }
 }
 
-const drawDashed = (pen, sheet, path) => drawTwice(pen, sheet.geometry.scale, [3.5, 2], { ink: sheet.inks.accent, dash: [5, 3] }, () => pen.stroke(path));
+const drawDashed = (pen, sheet, path) => drawTwice(
+    pen,
+    sheet.geometry.scale,
+    [3.5, 2],
+    {ink: sheet.inks.accent, dash: [5, 3]},
+    () => pen.stroke(path)
+);
 
 function drawBox(pen, sheet, box) {
-  const { geometry: at } = sheet;
+  const {geometry: at} = sheet;
   const path = new Path2D();
-  if (box.shape?.some((row) => row.includes(HOLE))) edgesOf(path, at, box, box.shape);
-  else path.rect(at.x(box.left), at.y(box.top), (box.right - box.left + 1) * at.cell, (box.bottom - box.top + 1) * at.cell);
+  if (box.shape?.some((row) => row.includes(HOLE)))
+    edgesOf(path, at, box, box.shape);
+  else
+    path.rect(
+        at.x(box.left),
+        at.y(box.top),
+        (box.right - box.left + 1) * at.cell,
+        (box.bottom - box.top + 1) * at.cell
+    );
   drawDashed(pen, sheet, path);
 }
 
 // The places where line solving stalls, each framed; where there are several they have numbers.
 function drawPlaces(pen, sheet) {
-  const { geometry: at, state, places } = sheet;
+  const {geometry: at, state, places} = sheet;
   const surface = new CanvasSurface(pen);
   places.forEach((cells, number) => {
     const box = boxAround(new Set(cells), state.columns);
     const path = new Path2D();
     edgesOf(path, at, box, shapeOf(new Set(cells), box, state.picture));
-    drawTwice(pen, at.scale, [5, 2.5], { ink: sheet.inks.alarm }, () => pen.stroke(path));
+    drawTwice(pen, at.scale, [5, 2.5], {ink: sheet.inks.alarm}, () => pen.stroke(path));
     if (places.length < 2) return;
-    const [x, y, size] = [at.x(cells[0] % state.columns), at.y(Math.floor(cells[0] / state.columns)), 8 * at.scale];
+    const [x, y, size] =
+        [at.x(cells[0] % state.columns), at.y(Math.floor(cells[0] / state.columns)), 8 * at.scale];
     surface.disc(x, y, size, sheet.inks.alarm);
-    surface.text(number + 1, x, y + at.scale / 2, { size: Math.round(size * 1.4), ink: sheet.inks.paper, family: sheet.family, weight: 600 });
+    surface.text(
+        number + 1,
+        x,
+        y + at.scale / 2,
+        {size: Math.round(size * 1.4), ink: sheet.inks.paper, family: sheet.family, weight: 600}
+    );
   });
 }
 
 // The axes of symmetric pens; quarter turns have a ring about the middle.
 function drawAxes(pen, sheet) {
-  const { geometry: at, state, symmetry } = sheet;
+  const {geometry: at, state, symmetry} = sheet;
   const [x, y] = [at.x(0) + (state.columns * at.cell) / 2, at.y(0) + (state.rows * at.cell) / 2];
   const path = new Path2D();
   if (symmetry !== 'down') {
@@ -97,14 +139,23 @@ function drawAxes(pen, sheet) {
 
 /** Draws all marks of a sheet. */
 export function drawMarks(pen, sheet) {
-  const { geometry: at } = sheet;
+  const {geometry: at} = sheet;
   pen.save();
   pen.beginPath();
   pen.rect(at.originX - 2, at.originY - 2, at.width, at.height);
   pen.clip();
   if (sheet.symmetry !== 'none' && isPossible(sheet.symmetry, sheet.state)) drawAxes(pen, sheet);
   drawPlaces(pen, sheet);
-  for (const index of sheet.framed) ringAround(pen, sheet, Math.floor(index / sheet.state.columns), index % sheet.state.columns, sheet.inks.alarm, [], 1);
+  for (const index of sheet.framed)
+    ringAround(
+        pen,
+        sheet,
+        Math.floor(index / sheet.state.columns),
+        index % sheet.state.columns,
+        sheet.inks.alarm,
+        [],
+        1
+    );
   if (sheet.reason) drawReason(pen, sheet);
   for (const box of sheet.boxes) drawBox(pen, sheet, box);
   pen.restore();

@@ -1,51 +1,58 @@
-// The sheet: cells, clues, marks over them, and what the pointer is at. Three canvases and one for marks stay as they are;
-// what has changed is drawn there. Beside them stands a grid of one cell for the keyboard and for screen readers.
+// The sheet: cells, clues, marks over them, and what the pointer is at. Three canvases and one for
+// marks stay as they are; what has changed is drawn there. Beside them stands a grid of one cell
+// for the keyboard and for screen readers.
 
-import { $, make } from '../base/elements.js';
-import { on, tell } from '../base/events.js';
-import { docOf } from '../document/document.js';
-import { LETTERS } from '../document/limits.js';
-import { bench } from '../engine/bench.js';
-import { coloursOf } from './board.js';
-import { Cells, GIVEN, HATCHED, LOCKED, RIVAL } from './cells.js';
-import { Geometry } from './geometry.js';
-import { drawMarks } from './marks.js';
-import { Strips } from './strips.js';
+import {$, make} from '../base/elements.js';
+import {on, tell} from '../base/events.js';
+import {docOf} from '../document/document.js';
+import {LETTERS} from '../document/limits.js';
+import {bench} from '../engine/bench.js';
+import {coloursOf} from './board.js';
+import {Cells, GIVEN, HATCHED, LOCKED, RIVAL} from './cells.js';
+import {Geometry} from './geometry.js';
+import {drawMarks} from './marks.js';
+import {Strips} from './strips.js';
 
-const NO_CHANGES = { rows: new Set(), columns: new Set() };
+const NO_CHANGES = {
+  rows: new Set(),
+  columns: new Set()
+};
 
 class Sheet {
   cellCanvas;
   rowCanvas;
   columnCanvas;
   marks;
-  placeCursor = () => {}; // the grid's, once it is there
+  placeCursor = () => {};  // the grid's, once it is there
 
   constructor(stage) {
     this.stage = stage;
-    const canvas = (name) => make('canvas', { class: name, 'aria-hidden': 'true' });
-    [this.cellCanvas, this.rowCanvas, this.columnCanvas, this.marks] = ['cells', 'row-clues', 'column-clues', 'marks'].map(canvas);
-    this.view = make('div', { class: 'view' }, this.cellCanvas, this.rowCanvas, this.columnCanvas, this.marks);
+    const canvas = (name) => make('canvas', {class: name, 'aria-hidden': 'true'});
+    [this.cellCanvas, this.rowCanvas, this.columnCanvas, this.marks] =
+        ['cells', 'row-clues', 'column-clues', 'marks'].map(canvas);
+    this.view = make(
+        'div', {class: 'view'}, this.cellCanvas, this.rowCanvas, this.columnCanvas, this.marks
+    );
     stage.append(this.view);
     this.geometry = new Geometry();
     this.cells = new Cells(this.cellCanvas);
     this.strips = new Strips(this.rowCanvas, this.columnCanvas);
-    this.state = null; // as reported
-    this.doc = null; // as drawn: with the strokes that wait
-    this.overlay = new Map(); // cells of a stroke that is being made: place to letter
-    this.hatching = 'open'; // 'off', 'differing' or 'open'
-    this.other = false; // whether the other picture is shown
+    this.state = null;         // as reported
+    this.doc = null;           // as drawn: with the strokes that wait
+    this.overlay = new Map();  // cells of a stroke that is being made: place to letter
+    this.hatching = 'open';    // 'off', 'differing' or 'open'
+    this.other = false;        // whether the other picture is shown
     this.reason = null;
-    this.held = null; // a line that is dragged: {axis, word, from, to}
-    this.boxes = []; // rectangles over the cells: {top, left, bottom, right, shape}
-    this.places = []; // where line solving stalls: groups of cells, by their places
-    this.framed = []; // the places of cells that a proposal changes, while it is shown
-    this.symmetry = 'none'; // of the pens, as document/symmetry.js has it
-    this.underlay = null; // an image to trace
+    this.held = null;        // a line that is dragged: {axis, word, from, to}
+    this.boxes = [];         // rectangles over the cells: {top, left, bottom, right, shape}
+    this.places = [];        // where line solving stalls: groups of cells, by their places
+    this.framed = [];        // the places of cells that a proposal changes, while it is shown
+    this.symmetry = 'none';  // of the pens, as document/symmetry.js has it
+    this.underlay = null;    // an image to trace
     this.frame = 0;
-    this.wanted = { all: false, cells: false, marks: false };
+    this.wanted = {all: false, cells: false, marks: false};
     this.inks = {};
-    this.look = null; // how the board is drawn, once it is
+    this.look = null;  // how the board is drawn, once it is
     new ResizeObserver(() => this.resized()).observe(stage);
     matchMedia('(prefers-color-scheme: dark)').addEventListener('change', () => this.redrawAll());
   }
@@ -55,14 +62,14 @@ class Sheet {
   /** Takes a new state; draws at once what has changed. */
   show(state) {
     const before = this.state;
-    const isOther = !before || before.rows !== state.rows || before.columns !== state.columns
-      || before.colours.join(';') !== state.colours.join(';') || before.maxval !== state.maxval;
+    const isOther = !before || before.rows !== state.rows || before.columns !== state.columns ||
+        before.colours.join(';') !== state.colours.join(';') || before.maxval !== state.maxval;
     const marked = this.state?.changed ?? NO_CHANGES;
     this.state = state;
     this.clues = state.clues;
     if (!state.verdict.other) this.other = false;
     this.update();
-    Object.assign(this.geometry, { rows: state.rows, columns: state.columns });
+    Object.assign(this.geometry, {rows: state.rows, columns: state.columns});
     this.geometry.measure(state.clues, isOther ? null : state.changed);
     if (isOther) {
       this.places = [];
@@ -71,7 +78,11 @@ class Sheet {
     }
     if (this.geometry.grow()) return this.drawAll();
     this.cells.changed(this);
-    this.strips.some(this, new Set([...marked.rows, ...state.changed.rows]), new Set([...marked.columns, ...state.changed.columns]));
+    this.strips.some(
+        this,
+        new Set([...marked.rows, ...state.changed.rows]),
+        new Set([...marked.columns, ...state.changed.columns])
+    );
     this.drawMarks();
   }
 
@@ -85,24 +96,31 @@ class Sheet {
   // The document with the strokes that wait, where it has the size of the state.
   update() {
     const doc = bench.state ? bench.seen() : null;
-    this.doc = doc && doc.rows === this.state.rows && doc.columns === this.state.columns ? doc : docOf(this.state);
+    this.doc = doc && doc.rows === this.state.rows && doc.columns === this.state.columns ?
+        doc :
+        docOf(this.state);
     this.isAhead = this.doc.picture.some((row, at) => row !== this.state.picture[at]);
   }
 
   letterAt(row, col) {
-    const { verdict } = this.state;
+    const {verdict} = this.state;
     if (this.other && verdict.other) return verdict.other[row][col];
     return this.overlay.get(row * this.state.columns + col) ?? this.doc.picture[row][col];
   }
 
   isOpen(row, col) {
-    return this.state.map[row][col] === '?' && this.letterAt(row, col) === (this.other && this.state.verdict.other ? this.state.verdict.other : this.state.picture)[row][col];
+    return this.state.map[row][col] === '?' &&
+        this.letterAt(row, col) ===
+        (this.other && this.state.verdict.other ? this.state.verdict.other : this.state.picture
+        )[row][col];
   }
 
   /** The letter in the picture that is not shown, where it is another one. */
   rivalAt(row, col) {
-    const { picture, verdict } = this.state;
-    if (!verdict.other || this.isAhead || this.overlay.size || verdict.other[row][col] === picture[row][col]) return null;
+    const {picture, verdict} = this.state;
+    if (!verdict.other || this.isAhead || this.overlay.size ||
+        verdict.other[row][col] === picture[row][col])
+      return null;
     return this.other ? picture[row][col] : verdict.other[row][col];
   }
 
@@ -125,15 +143,18 @@ class Sheet {
 
   /** Marks a line that is dragged and the one that it is over; null takes that away. */
   hold(held) {
-    const lines = { r: new Set(), c: new Set() };
-    for (const one of [this.held, held]) if (one) for (const at of [one.from, one.to]) lines[one.axis].add(at);
+    const lines = {r: new Set(), c: new Set()};
+    for (const one of [this.held, held])
+      if (one)
+        for (const at of [one.from, one.to]) lines[one.axis].add(at);
     this.held = held;
     this.strips.some(this, lines.r, lines.c);
   }
 
   isMarked(axis, at) {
-    const { held, reason } = this;
-    return (held?.axis === axis && (held.from === at || held.to === at)) || (reason?.word === 'by' && reason.axis === axis && reason.at === at + 1);
+    const {held, reason} = this;
+    return (held?.axis === axis && (held.from === at || held.to === at)) ||
+        (reason?.word === 'by' && reason.axis === axis && reason.at === at + 1);
   }
 
   /** Shows letters in cells before a stroke is made; null takes them away. */
@@ -141,8 +162,10 @@ class Sheet {
     const places = new Set([...this.overlay.keys(), ...(cells?.keys() ?? [])]);
     const hadRivals = this.overlay.size === 0 && this.state.verdict.other;
     this.overlay = cells ?? new Map();
-    if (hadRivals || (!this.overlay.size && this.state.verdict.other)) this.cells.changed(this);
-    else this.cells.some(this, places);
+    if (hadRivals || (!this.overlay.size && this.state.verdict.other))
+      this.cells.changed(this);
+    else
+      this.cells.some(this, places);
     this.underlay?.ask();
   }
 
@@ -153,7 +176,8 @@ class Sheet {
     const [width, height] = [this.stage.clientWidth, this.stage.clientHeight];
     if (!width || !height) return;
     this.geometry.resize(width, height, scale);
-    for (const canvas of [this.cellCanvas, this.marks]) [canvas.width, canvas.height] = [this.geometry.width, this.geometry.height];
+    for (const canvas of [this.cellCanvas, this.marks])
+      [canvas.width, canvas.height] = [this.geometry.width, this.geometry.height];
     if (!this.state) return;
     this.geometry.refit();
     this.drawAll();
@@ -161,25 +185,48 @@ class Sheet {
 
   readInks() {
     const style = getComputedStyle(this.stage);
-    for (const name of ['paper', 'ink', 'faint', 'accent', 'tint', 'alarm', 'light', 'heavy']) this.inks[name] = style.getPropertyValue(`--${name}`).trim() || '#888';
+    for (const name of ['paper', 'ink', 'faint', 'accent', 'tint', 'alarm', 'light', 'heavy'])
+      this.inks[name] = style.getPropertyValue(`--${name}`).trim() || '#888';
     this.family = style.fontFamily;
   }
 
   /** The part of the picture that is seen, as the renderer takes it. */
   boardFrame() {
-    const { geometry: at } = this;
-    return { x: at.x(0), y: at.y(0), cell: at.cell, rows: at.rows, columns: at.columns, ...at.seen() };
+    const {geometry: at} = this;
+    return {
+      x: at.x(0),
+      y: at.y(0),
+      cell: at.cell,
+      rows: at.rows,
+      columns: at.columns,
+      ...at.seen()
+    };
   }
 
-  // How all is drawn at this size: where cells are small, no line hides them, and clues have no digits.
+  // How all is drawn at this size: where cells are small, no line hides them, and clues have no
+  // digits.
   lookNow() {
-    const { geometry: at, inks, doc } = this;
+    const {geometry: at, inks, doc} = this;
     const wide = at.cell < 2 ? 0 : at.cell < 14 * at.scale ? 1 : 2;
-    const { light, heavy, ink, faint } = inks;
+    const {light, heavy, ink, faint} = inks;
     return {
-      ...coloursOf(doc), signs: at.letters ? LETTERS : null, family: this.family, thin: at.cell < 6 * at.scale ? 0 : 1, wide, border: wide, isWhole: true,
-      light, heavy, ink, faint, style: 'chip', edge: 'rgb(128 130 134 / 55%)', hair: 1, radius: 4 * at.scale,
-      font: at.font, least: at.cell < 7 * at.scale ? Infinity : 6 * at.scale,
+      ...coloursOf(doc),
+      signs: at.letters ? LETTERS : null,
+      family: this.family,
+      thin: at.cell < 6 * at.scale ? 0 : 1,
+      wide,
+      border: wide,
+      isWhole: true,
+      light,
+      heavy,
+      ink,
+      faint,
+      style: 'chip',
+      edge: 'rgb(128 130 134 / 55%)',
+      hair: 1,
+      radius: 4 * at.scale,
+      font: at.font,
+      least: at.cell < 7 * at.scale ? Infinity : 6 * at.scale,
     };
   }
 
@@ -196,22 +243,25 @@ class Sheet {
     if (this.frame || !this.state) return;
     this.frame = requestAnimationFrame(() => {
       this.frame = 0;
-      if (this.wanted.all) this.drawAll();
+      if (this.wanted.all)
+        this.drawAll();
       else {
         if (this.wanted.cells) this.cells.changed(this);
         this.drawMarks();
       }
-      this.wanted = { all: false, cells: false, marks: false };
+      this.wanted = {all: false, cells: false, marks: false};
     });
   }
 
   drawAll() {
-    const { geometry: at } = this;
+    const {geometry: at} = this;
     if (!at.width || !this.state) return;
     this.readInks();
     const size = (canvas, width, height) => {
-      if (canvas.width !== width || canvas.height !== height) [canvas.width, canvas.height] = [width, height];
-      [canvas.style.width, canvas.style.height] = [`${width / at.scale}px`, `${height / at.scale}px`];
+      if (canvas.width !== width || canvas.height !== height)
+        [canvas.width, canvas.height] = [width, height];
+      [canvas.style.width, canvas.style.height] =
+          [`${width / at.scale}px`, `${height / at.scale}px`];
     };
     size(this.cellCanvas, at.width, at.height);
     size(this.marks, at.width, at.height);
@@ -234,7 +284,7 @@ class Sheet {
 
   /** Places an element over a rectangle of cells, in pixels of the page. */
   place(element, top, left, bottom = top, right = left) {
-    const { geometry: at } = this;
+    const {geometry: at} = this;
     element.style.transform = `translate(${at.x(left) / at.scale}px, ${at.y(top) / at.scale}px)`;
     element.style.width = `${((right - left + 1) * at.cell) / at.scale}px`;
     element.style.height = `${((bottom - top + 1) * at.cell) / at.scale}px`;
@@ -243,12 +293,18 @@ class Sheet {
   /** What lies under a pointer. */
   under(event) {
     const box = this.view.getBoundingClientRect();
-    return this.geometry.at((event.clientX - box.left) * this.geometry.scale, (event.clientY - box.top) * this.geometry.scale);
+    return this.geometry.at(
+        (event.clientX - box.left) * this.geometry.scale,
+        (event.clientY - box.top) * this.geometry.scale
+    );
   }
 
-  /** Whether a pointer is outside the room of the cells: a drag that goes on there moves the picture. */
+  /**
+   * Whether a pointer is outside the room of the cells: a drag that goes on there moves the
+   * picture.
+   */
   isBeyond(event) {
-    const { geometry: at } = this;
+    const {geometry: at} = this;
     const box = this.view.getBoundingClientRect();
     const [x, y] = [(event.clientX - box.left) * at.scale, (event.clientY - box.top) * at.scale];
     return x < at.originX || y < at.originY || x > at.width || y > at.height;
@@ -274,7 +330,15 @@ export function startSheet() {
   sheet = new Sheet($('stage'));
   on('opened', () => {
     $('work').hidden = false;
-    Object.assign(sheet, { state: null, overlay: new Map(), boxes: [], places: [], reason: null, other: false, held: null });
+    Object.assign(sheet, {
+      state: null,
+      overlay: new Map(),
+      boxes: [],
+      places: [],
+      reason: null,
+      other: false,
+      held: null
+    });
     sheet.resized();
   });
   on('shown', (state) => {

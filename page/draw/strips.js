@@ -1,26 +1,31 @@
-// The clues beside and above the cells. Blocks are drawn once for each length and colour and copied from there; a line is
-// drawn again only when its clue, its mark or its place changes. Where Fit folds the clues, edges with the numbers of some lines
-// stand there.
+// The clues beside and above the cells. Blocks are drawn once for each length and colour and copied
+// from there; a line is drawn again only when its clue, its mark or its place changes. Where Fit
+// folds the clues, edges with the numbers of some lines stand there.
 
-import { drawClue, lengthsIn, textSize } from './board.js';
-import { Sprites } from './sprites.js';
-import { CanvasSurface } from './surface.js';
+import {drawClue, lengthsIn, textSize} from './board.js';
+import {Sprites} from './sprites.js';
+import {CanvasSurface} from './surface.js';
 
-const EDGE = 5; // the page's pixels of the marks of lines where the clues are folded
+const EDGE = 5;  // the page's pixels of the marks of lines where the clues are folded
 
 export class Strips {
   constructor(rowCanvas, columnCanvas) {
-    this.canvases = { r: rowCanvas, c: columnCanvas };
-    this.pens = { r: rowCanvas.getContext('2d', { alpha: false }), c: columnCanvas.getContext('2d', { alpha: false }) };
-    this.surfaces = { r: new CanvasSurface(this.pens.r), c: new CanvasSurface(this.pens.c) };
+    this.canvases = {r: rowCanvas, c: columnCanvas};
+    this.pens = {
+      r: rowCanvas.getContext('2d', {alpha: false}),
+      c: columnCanvas.getContext('2d', {alpha: false})
+    };
+    this.surfaces = {r: new CanvasSurface(this.pens.r), c: new CanvasSurface(this.pens.c)};
     this.sprites = new Sprites();
     this.copy = this.sprites.drawer();
   }
 
   /** Draws all lines that are seen. */
   all(sheet) {
-    const { geometry: at } = sheet;
-    const key = [at.cell, at.font, at.pitch, at.letters, at.scale, sheet.doc.maxval, ...sheet.doc.colours].join();
+    const {geometry: at} = sheet;
+    const key =
+        [at.cell, at.font, at.pitch, at.letters, at.scale, sheet.doc.maxval, ...sheet.doc.colours]
+            .join();
     this.sprites.keepFor(key);
     this.key = key;
     for (const axis of ['r', 'c']) {
@@ -28,7 +33,7 @@ export class Strips {
       pen.fillStyle = sheet.inks.paper;
       pen.fillRect(0, 0, this.canvases[axis].width, this.canvases[axis].height);
     }
-    const { top, left, bottom, right } = at.seen();
+    const {top, left, bottom, right} = at.seen();
     for (let row = top; row <= bottom; row++) this.line(sheet, 'r', row, false);
     for (let col = left; col <= right; col++) this.line(sheet, 'c', col, false);
     if (at.isFolded) this.numbers(sheet);
@@ -36,7 +41,7 @@ export class Strips {
 
   // The numbers of each tenth line, or where these would touch of each twentieth, beside the marks.
   numbers(sheet) {
-    const { geometry: at } = sheet;
+    const {geometry: at} = sheet;
     const size = Math.round(8 * at.scale);
     const step = at.cell * 10 < 2 * size ? 20 : 10;
     const away = Math.round((EDGE + 4) * at.scale);
@@ -48,8 +53,10 @@ export class Strips {
       pen.textBaseline = axis === 'r' ? 'middle' : 'bottom';
       for (let line = step; line <= count; line += step) {
         const middle = (line - 0.5) * at.cell;
-        if (axis === 'r') pen.fillText(line, at.originX - away, at.y(0) + middle);
-        else pen.fillText(line, at.x(0) + middle, at.originY - away + Math.round(2 * at.scale));
+        if (axis === 'r')
+          pen.fillText(line, at.originX - away, at.y(0) + middle);
+        else
+          pen.fillText(line, at.x(0) + middle, at.originY - away + Math.round(2 * at.scale));
       }
     }
   }
@@ -57,12 +64,15 @@ export class Strips {
   /** Draws some lines again. */
   some(sheet, rows, columns) {
     if (!this.key) return;
-    const { top, left, bottom, right } = sheet.geometry.seen();
-    for (const row of rows) if (row >= top && row <= bottom) this.line(sheet, 'r', row, true);
-    for (const col of columns) if (col >= left && col <= right) this.line(sheet, 'c', col, true);
+    const {top, left, bottom, right} = sheet.geometry.seen();
+    for (const row of rows)
+      if (row >= top && row <= bottom) this.line(sheet, 'r', row, true);
+    for (const col of columns)
+      if (col >= left && col <= right) this.line(sheet, 'c', col, true);
   }
 
-  // The band of a line: its ground, tinted where its clue has changed, it is dragged, or a reason names it.
+  // The band of a line: its ground, tinted where its clue has changed, it is dragged, or a reason
+  // names it.
   band(sheet, axis, at, x, y, width, height, anew) {
     const pen = this.pens[axis];
     const isMarked = sheet.isMarked(axis, at);
@@ -78,52 +88,87 @@ export class Strips {
     }
     if (!isChanged) return;
     pen.fillStyle = sheet.inks.alarm;
-    if (axis === 'r') pen.fillRect(x + width - edge, y + 1, edge, Math.max(1, height - 2));
-    else pen.fillRect(x + 1, y + height - edge, Math.max(1, width - 2), edge);
+    if (axis === 'r')
+      pen.fillRect(x + width - edge, y + 1, edge, Math.max(1, height - 2));
+    else
+      pen.fillRect(x + 1, y + height - edge, Math.max(1, width - 2), edge);
   }
 
   // The band of a line where the clues are folded: its marks alone, beside the cells.
   edge(sheet, axis, line, anew) {
-    const { geometry: at } = sheet;
+    const {geometry: at} = sheet;
     const [wide, gap] = [Math.round(EDGE * at.scale), Math.round(2 * at.scale)];
-    if (axis === 'r') this.band(sheet, 'r', line, at.originX - gap - wide, at.y(line), wide, at.cell, anew);
-    else this.band(sheet, 'c', line, at.x(line), at.originY - gap - wide, at.cell, wide, anew);
+    if (axis === 'r')
+      this.band(sheet, 'r', line, at.originX - gap - wide, at.y(line), wide, at.cell, anew);
+    else
+      this.band(sheet, 'c', line, at.x(line), at.originY - gap - wide, at.cell, wide, anew);
   }
 
   // A row or a column: its band and its clue.
   line(sheet, axis, line, anew) {
-    const { geometry: at } = sheet;
+    const {geometry: at} = sheet;
     if (at.isFolded) return this.edge(sheet, axis, line, anew);
     const [x, y, gap, pen] = [at.x(line), at.y(line), Math.round(3 * at.scale), this.pens[axis]];
     pen.save();
     pen.beginPath();
-    if (axis === 'r') pen.rect(0, Math.max(at.originY, y), at.originX, at.cell);
-    else pen.rect(Math.max(at.originX, x), 0, at.cell, at.originY);
+    if (axis === 'r')
+      pen.rect(0, Math.max(at.originY, y), at.originX, at.cell);
+    else
+      pen.rect(Math.max(at.originX, x), 0, at.cell, at.originY);
     pen.clip();
-    if (axis === 'r') this.band(sheet, 'r', line, at.slack.x, y, at.left - gap / 2, at.cell, anew);
-    else this.band(sheet, 'c', line, x, at.slack.y, at.cell, at.top - gap / 2, anew);
-    drawClue(this.surfaces[axis], sheet.look, axis, sheet.clues[axis === 'r' ? 'rows' : 'columns'][line], this.placeOf(sheet, axis, line), this.copy);
+    if (axis === 'r')
+      this.band(sheet, 'r', line, at.slack.x, y, at.left - gap / 2, at.cell, anew);
+    else
+      this.band(sheet, 'c', line, x, at.slack.y, at.cell, at.top - gap / 2, anew);
+    drawClue(
+        this.surfaces[axis],
+        sheet.look,
+        axis,
+        sheet.clues[axis === 'r' ? 'rows' : 'columns'][line],
+        this.placeOf(sheet, axis, line),
+        this.copy
+    );
     pen.restore();
   }
 
   // Where the clue of a line lies, as `drawClue` takes it.
-  placeOf({ geometry: at }, axis, line) {
-    const [gap, around, unit] = [Math.round(3 * at.scale) + Math.round(4 * at.scale), 6 * at.scale, at.scale];
+  placeOf({geometry: at}, axis, line) {
+    const [gap, around, unit] =
+        [Math.round(3 * at.scale) + Math.round(4 * at.scale), 6 * at.scale, at.scale];
     if (axis === 'r') {
       const height = Math.min(at.cell - 1, at.font + Math.round(6 * at.scale));
-      return { near: at.originX - gap, far: at.slack.x + around, middle: at.y(line) + at.cell / 2, gap: 2, unit, sizeOf: (block) => ({ width: this.rowWidth(at, block), height }) };
+      return {
+        near: at.originX - gap,
+        far: at.slack.x + around,
+        middle: at.y(line) + at.cell / 2,
+        gap: 2,
+        unit,
+        sizeOf: (block) => ({width: this.rowWidth(at, block), height})
+      };
     }
-    const size = { width: Math.min(at.cell - 1, Math.round(at.font * 2.6)), height: at.cell < 7 * at.scale ? Math.round(4 * at.scale) : at.pitch };
-    return { near: at.originY - gap, far: at.slack.y + around, middle: at.x(line) + at.cell / 2, gap: 1, unit, sizeOf: () => size };
+    const size = {
+      width: Math.min(at.cell - 1, Math.round(at.font * 2.6)),
+      height: at.cell < 7 * at.scale ? Math.round(4 * at.scale) : at.pitch
+    };
+    return {
+      near: at.originY - gap,
+      far: at.slack.y + around,
+      middle: at.x(line) + at.cell / 2,
+      gap: 1,
+      unit,
+      sizeOf: () => size
+    };
   }
 
   rowWidth(at, block) {
-    return at.cell < 7 * at.scale ? Math.round(4 * at.scale) : at.chipWidth(String(block.length).length, at.font);
+    return at.cell < 7 * at.scale ? Math.round(4 * at.scale) :
+                                    at.chipWidth(String(block.length).length, at.font);
   }
 
   /** Whether cells are large enough for the numbers of all clues. */
-  hasNumbers({ geometry: at, clues, look }) {
-    const fits = (block) => textSize(look, block, { width: at.cell - 1, height: at.pitch }) >= look.least;
+  hasNumbers({geometry: at, clues, look}) {
+    const fits = (block) =>
+        textSize(look, block, {width: at.cell - 1, height: at.pitch}) >= look.least;
     return !at.isFolded && clues.columns.every((blocks) => blocks.every(fits));
   }
 
@@ -134,12 +179,17 @@ export class Strips {
 
   /** Of how many clues not all blocks have room. */
   countCut(sheet) {
-    const { rows, columns } = sheet.clues;
+    const {rows, columns} = sheet.clues;
     const cut = (axis, clues) => clues.filter((_, at) => this.isBeyond(sheet, axis, at)).length;
     return cut('r', rows) + cut('c', columns);
   }
 
   isBeyond(sheet, axis, at) {
-    return lengthsIn(sheet.look, axis, sheet.clues[axis === 'r' ? 'rows' : 'columns'][at], this.placeOf(sheet, axis, at)).isCut;
+    return lengthsIn(
+               sheet.look,
+               axis,
+               sheet.clues[axis === 'r' ? 'rows' : 'columns'][at],
+               this.placeOf(sheet, axis, at)
+    ).isCut;
   }
 }

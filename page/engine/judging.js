@@ -1,19 +1,29 @@
-// What the engine says of documents that are not open, one after the other, in a worker of their own; and their repairs: the fewest cells to
-// repaint until no guessing is needed, else until there is one solution.
+// What the engine says of documents that are not open, one after the other, in a worker of their
+// own; and their repairs: the fewest cells to repaint until no guessing is needed, else until there
+// is one solution.
 
-import { baseOf, painted } from '../document/cover.js';
-import { docOf, pageOf } from '../document/document.js';
-import { boardFields } from '../repair/board.js';
-import { assessed } from './assessing.js';
-import { startEngine } from './client.js';
-import { openedIn } from './opening.js';
+import {baseOf, painted} from '../document/cover.js';
+import {docOf, pageOf} from '../document/document.js';
+import {boardFields} from '../repair/board.js';
+import {assessed} from './assessing.js';
+import {startEngine} from './client.js';
+import {openedIn} from './opening.js';
 
 /** What is said of a document that took too long, or whose engine failed; `isLate` says which. */
-const LATE = { verdict: 'undecided', grade: null, flaws: [], fit: false, text: '' };
+const LATE = {
+  verdict: 'undecided',
+  grade: null,
+  flaws: [],
+  fit: false,
+  text: ''
+};
 
-/** Judges documents, each within some seconds. A search that takes longer ends with its worker, and another one goes on. */
+/**
+ * Judges documents, each within some seconds. A search that takes longer ends with its worker, and
+ * another one goes on.
+ */
 export class Judge {
-  constructor({ seconds, start = startEngine }) {
+  constructor({seconds, start = startEngine}) {
     this.seconds = seconds;
     this.start = start;
     /** @type {any} */
@@ -25,7 +35,7 @@ export class Judge {
   async judge(doc) {
     if (this.isEnded) return null;
     this.engine ??= this.start();
-    const { engine } = this;
+    const {engine} = this;
     let isLate = false;
     const late = setTimeout(() => {
       isLate = true;
@@ -37,7 +47,7 @@ export class Judge {
     } catch (fault) {
       this.discard(engine);
       if (fault.kind !== 'ended') throw fault;
-      return this.isEnded ? null : { ...LATE, isLate };
+      return this.isEnded ? null : {...LATE, isLate};
     } finally {
       clearTimeout(late);
     }
@@ -55,25 +65,34 @@ export class Judge {
   }
 }
 
-const isBetter = (one, other) => !other || one.cells.length < other.cells.length || (one.cells.length === other.cells.length && one.pain < other.pain);
+const isBetter = (one, other) => !other || one.cells.length < other.cells.length ||
+    (one.cells.length === other.cells.length && one.pain < other.pain);
 
 /** Repairs documents, each search within some seconds. */
 export class Mender {
-  constructor({ seconds, start = startEngine }) {
+  constructor({seconds, start = startEngine}) {
     this.seconds = seconds;
     this.engine = start();
   }
 
-  /** A document repaired, and how many cells were repainted: `{ doc, cells }`; null where nothing was found. */
+  /**
+   * A document repaired, and how many cells were repainted: `{ doc, cells }`; null where nothing
+   * was found.
+   */
   async mend(doc) {
     const state = await openedIn(this.engine, baseOf(doc), pageOf(doc));
     for (const goal of ['lines', 'unique']) {
       /** @type {any} */
       let best = null;
-      await this.engine.call('repair', { board: boardFields(state), goal, seconds: this.seconds }, ({ found }) => {
-        if (found && isBetter(found, best)) best = found;
-      });
-      if (best) return { doc: { ...docOf(state), picture: painted(state.picture, best.cells) }, cells: best.cells.length };
+      await this.engine
+          .call('repair', {board: boardFields(state), goal, seconds: this.seconds}, ({found}) => {
+            if (found && isBetter(found, best)) best = found;
+          });
+      if (best)
+        return {
+          doc: {...docOf(state), picture: painted(state.picture, best.cells)},
+          cells: best.cells.length
+        };
     }
     return null;
   }

@@ -1,14 +1,14 @@
-// Searches that may take long: one at a time, in a second worker on a copy of the document. One is ended by ending that
-// worker, so that a stroke never waits for it.
+// Searches that may take long: one at a time, in a second worker on a copy of the document. One is
+// ended by ending that worker, so that a stroke never waits for it.
 
-import { baseOf } from '../document/cover.js';
-import { docOf } from '../document/document.js';
-import { phrase } from '../texts/phrase.js';
-import { answersTo } from './answers.js';
-import { assessed } from './assessing.js';
+import {baseOf} from '../document/cover.js';
+import {docOf} from '../document/document.js';
+import {phrase} from '../texts/phrase.js';
+import {answersTo} from './answers.js';
+import {assessed} from './assessing.js';
 
-const TICK = 250; // milliseconds between two looks at the clock
-const REST = 200; // milliseconds without a stroke before a verdict is searched for
+const TICK = 250;  // milliseconds between two looks at the clock
+const REST = 200;  // milliseconds without a stroke before a verdict is searched for
 
 // Why a search came to its end before it was through: 'stopped', 'time' or 'stroke'.
 class Ended extends Error {
@@ -18,7 +18,10 @@ class Ended extends Error {
   }
 }
 
-/** The copy of the document in the second worker, as a job meets it. `found` is its result where time or Stop ends it. */
+/**
+ * The copy of the document in the second worker, as a job meets it. `found` is its result where
+ * time or Stop ends it.
+ */
 class Copy {
   constructor(searches, run) {
     this.searches = searches;
@@ -46,14 +49,21 @@ class Copy {
     return answers;
   }
 
-  /** The verdict. No allowance bounds it, so the bench goes on by its other searches: only the end of the time ends it. */
+  /**
+   * The verdict. No allowance bounds it, so the bench goes on by its other searches: only the end
+   * of the time ends it.
+   */
   async verdict() {
     const [, verdict] = await this.say('allow off', 'verdict');
-    if (verdict.word === 'undecided') throw new Error('a search without a bound came to no verdict');
+    if (verdict.word === 'undecided')
+      throw new Error('a search without a bound came to no verdict');
     return verdict;
   }
 
-  /** A long call of the worker on the copy: `told` hears what it finds. From there on the copy is another picture. */
+  /**
+   * A long call of the worker on the copy: `told` hears what it finds. From there on the copy is
+   * another picture.
+   */
   async work(name, fields, told) {
     this.changes();
     return this.searches.within(this.run, this.run.engine.call(name, fields, told));
@@ -68,14 +78,15 @@ class Copy {
 
 export class Searches {
   /**
-   * `hooks.start` starts an engine, `hooks.told` is called with what runs ({ name, elapsed, seconds, note }) each quarter of
-   * a second and with null when nothing does, `hooks.judged` with the verdict found of the present document, `hooks.ended`
-   * with name and reason where a search came to no end, `hooks.failed` with a fault. `hooks.seconds` is the time chosen.
+   * `hooks.start` starts an engine, `hooks.told` is called with what runs ({ name, elapsed,
+   * seconds, note }) each quarter of a second and with null when nothing does, `hooks.judged` with
+   * the verdict found of the present document, `hooks.ended` with name and reason where a search
+   * came to no end, `hooks.failed` with a fault. `hooks.seconds` is the time chosen.
    */
   constructor(hooks) {
     this.hooks = hooks;
     this.engine = null;
-    this.opened = -1; // the version of the document whose copy the engine holds
+    this.opened = -1;  // the version of the document whose copy the engine holds
     this.version = 0;
     this.state = null;
     this.running = null;
@@ -110,41 +121,54 @@ export class Searches {
 
   /** Searches for the verdict of the present picture. */
   async judge(seconds = this.hooks.seconds()) {
-    const { version } = this;
-    const verdict = await this.job(phrase('engine.searchingAnotherPicture'), seconds, (copy) => copy.verdict(), true);
+    const {version} = this;
+    const verdict = await this.job(
+        phrase('engine.searchingAnotherPicture'), seconds, (copy) => copy.verdict(), true
+    );
     this.tellVerdict(version, verdict);
     return verdict;
   }
 
   /** A certificate: its text, or null. What its search finds is told as the verdict too. */
   async certify(seconds = this.hooks.seconds()) {
-    const { version } = this;
+    const {version} = this;
     return this.job(phrase('engine.searchingCertificate'), seconds, async (copy) => {
       const [answer] = await copy.say('certify');
       if (answer.kind === 'refused') throw new Error(answer.name);
-      this.tellVerdict(version, answer.kind === 'text' ? { kind: 'verdict', word: 'unique' } : await copy.verdict());
+      this.tellVerdict(
+          version, answer.kind === 'text' ? {kind: 'verdict', word: 'unique'} : await copy.verdict()
+      );
       return answer.text ?? null;
     }, true);
   }
 
-  /** A certificate with lemmas, which has no givens: its text, or null. It tells the verdict too, but not another picture. */
+  /**
+   * A certificate with lemmas, which has no givens: its text, or null. It tells the verdict too,
+   * but not another picture.
+   */
   async prove(seconds = this.hooks.seconds()) {
-    const { version } = this;
+    const {version} = this;
     return this.job(phrase('engine.searchingCertificate'), seconds, async (copy, run) => {
-      const [{ text }] = await copy.say('write ppm');
-      const { certificate } = await this.within(run, run.engine.call('prove', { picture: text, background: run.state.colours[0].join(',') }));
-      if (certificate) this.tellVerdict(version, { kind: 'verdict', word: 'unique' });
+      const [{text}] = await copy.say('write ppm');
+      const {certificate} = await this.within(
+          run, run.engine.call('prove', {picture: text, background: run.state.colours[0].join(',')})
+      );
+      if (certificate) this.tellVerdict(version, {kind: 'verdict', word: 'unique'});
       return certificate;
     }, true);
   }
 
   /**
-   * What the engine says of the present picture, as `assessed` has it, or null. Where line logic solves it and no cell is given, that is a
-   * moment of the second worker, which a stroke does not end. Else it is a job without a name.
+   * What the engine says of the present picture, as `assessed` has it, or null. Where line logic
+   * solves it and no cell is given, that is a moment of the second worker, which a stroke does not
+   * end. Else it is a job without a name.
    */
   async assess(seconds) {
-    const { state } = this;
-    if (state.open > 0 || state.givens.size > 0) return this.job('', seconds, (copy, run) => this.within(run, assessed(run.engine, run.state)));
+    const {state} = this;
+    if (state.open > 0 || state.givens.size > 0)
+      return this.job(
+          '', seconds, (copy, run) => this.within(run, assessed(run.engine, run.state))
+      );
     this.engine ??= this.hooks.start();
     return assessed(this.engine, state).catch(() => null);
   }
@@ -154,14 +178,26 @@ export class Searches {
   }
 
   /**
-   * Runs a job on a copy of the present picture, within so many seconds. Ended before, it gives what it found so far or
-   * null. `judges` says that its end is a verdict. A job without a name is not told: it gives way to all others.
+   * Runs a job on a copy of the present picture, within so many seconds. Ended before, it gives
+   * what it found so far or null. `judges` says that its end is a verdict. A job without a name is
+   * not told: it gives way to all others.
    */
   async job(name, seconds, work, judges = false) {
     clearTimeout(this.waits);
     this.end('another');
-    const run = { name, judges, seconds, from: performance.now(), note: '', found: null, state: this.state, version: this.version };
-    run.cut = new Promise((_, reject) => { run.reject = reject; });
+    const run = {
+      name,
+      judges,
+      seconds,
+      from: performance.now(),
+      note: '',
+      found: null,
+      state: this.state,
+      version: this.version
+    };
+    run.cut = new Promise((_, reject) => {
+      run.reject = reject;
+    });
     run.cut.catch(() => {});
     run.clock = setInterval(() => this.tick(run), TICK);
     this.running = run;
@@ -188,8 +224,8 @@ export class Searches {
     const copy = new Copy(this, run);
     if (this.opened === run.version) return copy;
     this.opened = -1;
-    const { text, background, lines } = baseOf(docOf(run.state));
-    await this.within(run, run.engine.open(text, { background }));
+    const {text, background, lines} = baseOf(docOf(run.state));
+    await this.within(run, run.engine.open(text, {background}));
     const answers = lines.length ? await copy.say(...lines) : [];
     if (answers.some((answer) => answer.kind !== 'ok')) throw new Error('the copy is not the same');
     this.opened = run.version;
@@ -204,8 +240,10 @@ export class Searches {
   tick(run) {
     if (this.running !== run) return;
     const elapsed = (performance.now() - run.from) / 1000;
-    if (elapsed >= run.seconds) this.end('time');
-    else if (run.name) this.hooks.told({ name: run.name, elapsed, seconds: run.seconds, note: run.note });
+    if (elapsed >= run.seconds)
+      this.end('time');
+    else if (run.name)
+      this.hooks.told({name: run.name, elapsed, seconds: run.seconds, note: run.note});
   }
 
   // Ends what runs together with its worker.

@@ -1,12 +1,17 @@
-// Bytes as signs that neither HTML nor JSON takes for its own: 13 bits are two of 91 signs, the printable ones of ASCII but ", < and \.
+// Bytes as signs that neither HTML nor JSON takes for its own: 13 bits are two of 91 signs, the
+// printable ones of ASCII but ", < and \.
 
-const SIGNS = Array.from({ length: 94 }, (_, at) => String.fromCharCode(33 + at)).filter((sign) => !/["<\\]/.test(sign));
+const SIGNS = Array.from(
+                       {length: 94}, (_, at) => String.fromCharCode(33 + at)
+).filter((sign) => !/["<\\]/.test(sign));
 const VALUES = Object.fromEntries(SIGNS.map((sign, value) => [sign, value]));
 
 /** The signs of bytes. */
 export function signsOf(bytes) {
   let bits = 0, count = 0, signs = '';
-  const put = (value) => { signs += SIGNS[Math.floor(value / 91)] + SIGNS[value % 91]; };
+  const put = (value) => {
+    signs += SIGNS[Math.floor(value / 91)] + SIGNS[value % 91];
+  };
   for (const byte of bytes) {
     bits = bits << 8 | byte;
     count += 8;

@@ -1,119 +1,185 @@
-// Out of the page: Web Paint-by-Number's XML, PNG of the picture and of the empty puzzle, P3, .non and the certificate. Each is a
-// download.
+// Out of the page: Web Paint-by-Number's XML, PNG of the picture and of the empty puzzle, P3, .non
+// and the certificate. Each is a download.
 
-import { $, make, say } from '../base/elements.js';
-import { gradeLine, isGradeLine } from '../base/names.js';
-import { bareName, clamp, cleanName } from '../base/words.js';
-import { eightBitDoc, unlocked } from '../document/document.js';
-import { canvasPaper } from '../draw/papers.js';
-import { drawSmall } from '../draw/small.js';
-import { bench } from '../engine/bench.js';
-import { Judge } from '../engine/judging.js';
-import { ppmTextOf } from '../formats/ppm_notes.js';
-import { writeZip } from '../formats/zip.js';
-import { keep } from '../library/keep.js';
-import { exportAs, saveDownload, saving, showFileName } from '../library/saving.js';
-import { keepChoice, keptChoice } from '../texts/language.js';
-import { phrase } from '../texts/phrase.js';
-import { actionButton, actions, addAction } from '../view/actions.js';
-import { openDialog } from '../view/dialogs.js';
-import { nearText, unfitText } from '../view/dress.js';
-import { gradeAtHand } from '../view/grading.js';
-import { asSeen, heard, whileOpen } from '../view/tools.js';
-import { certificateText, secondsChosen } from '../view/verdict.js';
-import { exportPath } from './animation.js';
-import { WARNINGS, puzzleOf, startPrinting } from './printing.js';
-import { startSharing } from './sharing.js';
+import {$, make, say} from '../base/elements.js';
+import {gradeLine, isGradeLine} from '../base/names.js';
+import {bareName, clamp, cleanName} from '../base/words.js';
+import {eightBitDoc, unlocked} from '../document/document.js';
+import {canvasPaper} from '../draw/papers.js';
+import {drawSmall} from '../draw/small.js';
+import {bench} from '../engine/bench.js';
+import {Judge} from '../engine/judging.js';
+import {ppmTextOf} from '../formats/ppm_notes.js';
+import {writeZip} from '../formats/zip.js';
+import {keep} from '../library/keep.js';
+import {exportAs, saveDownload, saving, showFileName} from '../library/saving.js';
+import {keepChoice, keptChoice} from '../texts/language.js';
+import {phrase} from '../texts/phrase.js';
+import {actionButton, actions, addAction} from '../view/actions.js';
+import {openDialog} from '../view/dialogs.js';
+import {nearText, unfitText} from '../view/dress.js';
+import {gradeAtHand} from '../view/grading.js';
+import {asSeen, heard, whileOpen} from '../view/tools.js';
+import {certificateText, secondsChosen} from '../view/verdict.js';
+import {exportPath} from './animation.js';
+import {WARNINGS, puzzleOf, startPrinting} from './printing.js';
+import {startSharing} from './sharing.js';
 
-const MOST_SECONDS = 30; // for what the engine says of a puzzle
-const PNG_SIDE = 1600; // pixels that the longer side of a PNG comes near to
-const pngCell = ({ rows, columns }) => clamp(Math.floor(PNG_SIDE / Math.max(rows, columns)), 8, 32);
+const MOST_SECONDS = 30;  // for what the engine says of a puzzle
+const PNG_SIDE = 1600;    // pixels that the longer side of a PNG comes near to
+const pngCell = ({rows, columns}) => clamp(Math.floor(PNG_SIDE / Math.max(rows, columns)), 8, 32);
 
 function exportPng(name, canvas, suffix, more = '') {
-  canvas.toBlob((blob) => (blob ? exportAs(name, 'png', blob, suffix, more) : say(phrase('export.browserMadeNoPng'), 'alarm')), 'image/png');
+  canvas.toBlob(
+      (blob) =>
+          (blob ? exportAs(name, 'png', blob, suffix, more) :
+                  say(phrase('export.browserMadeNoPng'), 'alarm')),
+      'image/png'
+  );
 }
 
-// The warning that goes with a puzzle that leaves the page, after a blank; '' where it has one solution.
-const warningText = ({ verdict }) => (WARNINGS[verdict.word] ? ` ${WARNINGS[verdict.word]}` : '');
+// The warning that goes with a puzzle that leaves the page, after a blank; '' where it has one
+// solution.
+const warningText = ({verdict}) => (WARNINGS[verdict.word] ? ` ${WARNINGS[verdict.word]}` : '');
 
 /** The picture, some pixels a cell, without lines. */
-const exportPicture = (sideOf, suffix) => asSeen(({ state, name }) => {
+const exportPicture = (sideOf, suffix) => asSeen(({state, name}) => {
   const canvas = make('canvas');
   drawSmall(canvas, state, sideOf(state) * Math.max(state.rows, state.columns));
   exportPng(name, canvas, suffix);
 });
 
 const exportEmpty = () => asSeen((seen) => {
-  const { state, name } = seen;
+  const {state, name} = seen;
   const near = nearText(state);
-  if (near) return say(phrase('export.coloursPuzzleCannotTold', { near }), 'alarm');
-  return exportPng(name, canvasPaper(puzzleOf(seen), pngCell(state)).pen.canvas, '-puzzle', warningText(state));
+  if (near) return say(phrase('export.coloursPuzzleCannotTold', {near}), 'alarm');
+  return exportPng(
+      name, canvasPaper(puzzleOf(seen), pngCell(state)).pen.canvas, '-puzzle', warningText(state)
+  );
 });
 
-const exportText = (form) => asSeen((seen) => saveDownload(form, seen, { more: warningText(seen.state), forOthers: true }));
+const exportText = (form) =>
+    asSeen((seen) => saveDownload(form, seen, {more: warningText(seen.state), forOthers: true}));
 
-const exportCertificate = () => asSeen(async ({ name }) => {
+const exportCertificate = () => asSeen(async ({name}) => {
   const text = await certificateText();
   if (text) exportAs(name, 'cert', text);
 });
 
-// What a site checks a puzzle by, as nonobench-audit calls it: the picture, its certificate, what lies beside it, and what the engine says of it.
-const exportForSite = () => asSeen(async ({ state, name }) => {
+// What a site checks a puzzle by, as nonobench-audit calls it: the picture, its certificate, what
+// lies beside it, and what the engine says of it.
+const exportForSite = () => asSeen(async ({state, name}) => {
   const doc = eightBitDoc(state);
   const text = await certificateText();
   if (!text) return;
   const ground = doc.colours[0].join(',');
-  const judge = new Judge({ seconds: Math.min(MOST_SECONDS, secondsChosen()) });
-  const said = await judge.judge(doc); // whose text is '' where there is none in the time
+  const judge = new Judge({seconds: Math.min(MOST_SECONDS, secondsChosen())});
+  const said = await judge.judge(doc);  // whose text is '' where there is none in the time
   judge.end();
-  const parts = { ppm: ppmTextOf(unlocked(doc)), cert: text, txt: said.text, givens: (text.match(/^given .*\n/gm) ?? []).join(''), background: ground === '255,255,255' ? '' : `${ground}\n` };
-  const files = Object.entries(parts).filter(([, part]) => part).map(([ending, part]) => ({ name: `${name}.${ending}`, bytes: new TextEncoder().encode(part) }));
-  exportAs(name, 'zip', writeZip(files), '-site', said.text && !said.fit ? phrase('export.savedUnfit', { why: unfitText(doc, said) }) : '');
+  const parts = {
+    ppm: ppmTextOf(unlocked(doc)),
+    cert: text,
+    txt: said.text,
+    givens: (text.match(/^given .*\n/gm) ?? []).join(''),
+    background: ground === '255,255,255' ? '' : `${ground}\n`
+  };
+  const files = Object.entries(parts).filter(
+                                         ([, part]) => part
+  ).map(([ending, part]) => ({name: `${name}.${ending}`, bytes: new TextEncoder().encode(part)}));
+  exportAs(
+      name,
+      'zip',
+      writeZip(files),
+      '-site',
+      said.text && !said.fit ? phrase('export.savedUnfit', {why: unfitText(doc, said)}) : ''
+  );
 });
 
-const ABOUT_FIELDS = { title: phrase('export.title'), author: phrase('export.author'), copyright: phrase('export.copyright'), description: phrase('export.description'), note: phrase('export.note') };
+const ABOUT_FIELDS = {
+  title: phrase('export.title'),
+  author: phrase('export.author'),
+  copyright: phrase('export.copyright'),
+  description: phrase('export.description'),
+  note: phrase('export.note')
+};
 const LONG_FIELDS = ['description', 'note'];
-const AUTHOR = 'nonobench-author'; // as it was typed last
+const AUTHOR = 'nonobench-author';  // as it was typed last
 
 // A description with a grade as its last line, in place of an earlier one.
-const withGrade = (text, { word }) => [...text.split('\n').filter((line) => line && !isGradeLine(line)), gradeLine(word)].join('\n');
+const withGrade =
+    (text,
+     {word}) => [...text.split('\n').filter((line) => line && !isGradeLine(line)), gradeLine(word)]
+                    .join('\n');
 
-/** Asks for the texts about the puzzle, which go into its files and on the printed sheet, and for its name: the title, unless the user chose another one. */
+/**
+ * Asks for the texts about the puzzle, which go into its files and on the printed sheet, and for
+ * its name: the title, unless the user chose another one.
+ */
 async function askAbout() {
-  const { about } = bench.state;
+  const {about} = bench.state;
   const isNew = !Object.keys(ABOUT_FIELDS).some((name) => about[name]);
-  const shown = { ...about, author: (isNew ? keptChoice(AUTHOR) : about.author) ?? '' };
-  const field = (name) => (LONG_FIELDS.includes(name) ? make('textarea', { rows: 3, maxlength: '5000' }, shown[name] ?? '') : make('input', { type: 'text', value: shown[name] ?? '', maxlength: '500' }));
+  const shown = {...about, author: (isNew ? keptChoice(AUTHOR) : about.author) ?? ''};
+  const field = (name) =>
+      (LONG_FIELDS.includes(name) ?
+           make('textarea', {rows: 3, maxlength: '5000'}, shown[name] ?? '') :
+           make('input', {type: 'text', value: shown[name] ?? '', maxlength: '500'}));
   const fields = Object.fromEntries(Object.keys(ABOUT_FIELDS).map((name) => [name, field(name)]));
-  const { title, description } = fields;
-  const file = make('input', { type: 'text', value: bench.name, maxlength: '80' });
+  const {title, description} = fields;
+  const file = make('input', {type: 'text', value: bench.name, maxlength: '80'});
   let isOwn = keep.isNamed;
-  file.addEventListener('input', () => { isOwn = true; });
-  title.addEventListener('input', () => { if (!isOwn) file.value = title.value.trim() ? cleanName(title.value) : bench.name; });
+  file.addEventListener('input', () => {
+    isOwn = true;
+  });
+  title.addEventListener('input', () => {
+    if (!isOwn) file.value = title.value.trim() ? cleanName(title.value) : bench.name;
+  });
   const grade = gradeAtHand();
-  const addGrade = () => { description.value = withGrade(description.value, grade); };
-  const content = make('div', { class: 'rows' }, ...Object.entries(fields).map(([name, input]) => make('label', {}, ABOUT_FIELDS[name], input)), make('label', {}, phrase('export.nameFile'), file));
-  if (grade) content.append(make('button', { type: 'button', id: 'about-grade', onclick: addGrade }, phrase('export.putGradeIntoDescription')));
-  if (!(await whileOpen(openDialog({ title: phrase('export.aboutPuzzle'), content, buttons: [{ name: 'OK', value: true, main: true }] })))) return;
-  const texts = Object.fromEntries(Object.entries(fields).map(([name, input]) => [name, input.value.trim()]).filter(([, text]) => text));
+  const addGrade = () => {
+    description.value = withGrade(description.value, grade);
+  };
+  const content = make(
+      'div',
+      {class: 'rows'},
+      ...Object.entries(fields
+      ).map(([name, input]) => make('label', {}, ABOUT_FIELDS[name], input)),
+      make('label', {}, phrase('export.nameFile'), file)
+  );
+  if (grade)
+    content.append(make(
+        'button',
+        {type: 'button', id: 'about-grade', onclick: addGrade},
+        phrase('export.putGradeIntoDescription')
+    ));
+  if (!(await whileOpen(openDialog({
+        title: phrase('export.aboutPuzzle'),
+        content,
+        buttons: [{name: 'OK', value: true, main: true}]
+      }))))
+    return;
+  const texts =
+      Object.fromEntries(Object.entries(fields).map(
+                                                   ([name, input]) => [name, input.value.trim()]
+      ).filter(([, text]) => text));
   if ((texts.author ?? '') !== shown.author) keepChoice(AUTHOR, texts.author ?? '');
-  const without = (doc) => Object.fromEntries(Object.entries(doc.about).filter(([name]) => !(name in ABOUT_FIELDS)));
+  const without = (doc) =>
+      Object.fromEntries(Object.entries(doc.about).filter(([name]) => !(name in ABOUT_FIELDS)));
   const name = isOwn ? bareName(file.value) : cleanName(file.value);
   if (name !== bench.name) saving.handle = null;
   bench.name = name;
   keep.isNamed = isOwn;
-  await heard(bench.become((doc) => ({ ...doc, about: { ...without(doc), ...texts } })));
+  await heard(bench.become((doc) => ({...doc, about: {...without(doc), ...texts}})));
   keep.now();
   showFileName();
 }
 
 /** What the menu File exports: first for whom it is, then as what. */
 export function startExporting() {
-  const add = (id, name, run, more = {}) => addAction({ id, name, place: 'file', group: 'export', run, ...more });
-  add('about', phrase('export.titleAuthor'), askAbout, { group: 'save' });
-  Object.assign($('title'), { onclick: askAbout, title: phrase('export.titleAuthor') });
+  const add = (id, name, run, more = {}) =>
+      addAction({id, name, place: 'file', group: 'export', run, ...more});
+  add('about', phrase('export.titleAuthor'), askAbout, {group: 'save'});
+  Object.assign($('title'), {onclick: askAbout, title: phrase('export.titleAuthor')});
   add('export-xml', phrase('export.webpbnXml'), () => exportText('xml'));
-  add('export-site', phrase('export.siteZip'), exportForSite, { hint: phrase('export.siteServes') });
+  add('export-site', phrase('export.siteZip'), exportForSite, {hint: phrase('export.siteServes')});
   startPrinting();
   startSharing();
   add('export-empty', phrase('export.puzzlePng'), exportEmpty);
@@ -122,11 +188,31 @@ export function startExporting() {
   add('export-path', phrase('export.pathGif'), exportPath);
   add('certificate', phrase('library.certificate'), exportCertificate);
   add('export-ppm', phrase('export.plainPpm'), () => exportText('ppm'));
-  add('export-non', phrase('export.nonTwoColours'), () => exportText('non'), { can: () => bench.state.colours.length <= 2 || !/[b-o]/.test(bench.state.picture.join('')) });
+  add('export-non', phrase('export.nonTwoColours'), () => exportText('non'), {
+    can: () => bench.state.colours.length <= 2 || !/[b-o]/.test(bench.state.picture.join(''))
+  });
 }
 
 /** The panel that saves and exports, by what the menu does. */
 export function showExportPanel() {
-  const buttons = ['save', 'export-xml', 'export-site', 'print', 'share', 'export-empty', 'export-picture', 'certificate'].map((id) => actionButton(actions.get(id)));
-  $('out').replaceChildren(make('h2', {}, phrase('export.saveExport')), make('p', { class: 'group' }, ...buttons), make('p', { class: 'faint' }, make('b', {}, phrase('export.siteZip')), ` ${phrase('export.siteServes')}`));
+  const buttons = [
+    'save',
+    'export-xml',
+    'export-site',
+    'print',
+    'share',
+    'export-empty',
+    'export-picture',
+    'certificate'
+  ].map((id) => actionButton(actions.get(id)));
+  $('out').replaceChildren(
+      make('h2', {}, phrase('export.saveExport')),
+      make('p', {class: 'group'}, ...buttons),
+      make(
+          'p',
+          {class: 'faint'},
+          make('b', {}, phrase('export.siteZip')),
+          ` ${phrase('export.siteServes')}`
+      )
+  );
 }

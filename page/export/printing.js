@@ -1,33 +1,53 @@
-// Print for books: the picture at hand, and on wish others of the library, as sheets, for the browser's print or as SVG.
+// Print for books: the picture at hand, and on wish others of the library, as sheets, for the
+// browser's print or as SVG.
 
-import { $, choiceOf, make, say } from '../base/elements.js';
-import { on } from '../base/events.js';
-import { gradeName, verdictName } from '../base/names.js';
-import { clamp, opening, sizeText } from '../base/words.js';
-import { docOf, runsOf } from '../document/document.js';
-import { LEAST_TEXT, alikeBoxes, smallestText } from '../draw/papers.js';
-import { bench } from '../engine/bench.js';
-import { writeZip } from '../formats/zip.js';
-import { keep } from '../library/keep.js';
-import { withClues } from '../library/open.js';
-import { SAVE_TYPES, download, exportAs } from '../library/saving.js';
-import { LANGUAGE, phrase } from '../texts/phrase.js';
-import { addAction } from '../view/actions.js';
-import { openDialog } from '../view/dialogs.js';
-import { nearText, pairText } from '../view/dress.js';
-import { gradeAtHand } from '../view/grading.js';
-import { eachInTurn, withProgress } from '../view/progress.js';
-import { asSeen } from '../view/tools.js';
-import { SHEET_TEXTS, entryOf } from './entries.js';
-import { GRIDS, MOST_SHEETS, PAPERS, isLarge, makersOf, partsOf } from './sheets.js';
+import {$, choiceOf, make, say} from '../base/elements.js';
+import {on} from '../base/events.js';
+import {gradeName, verdictName} from '../base/names.js';
+import {clamp, opening, sizeText} from '../base/words.js';
+import {docOf, runsOf} from '../document/document.js';
+import {LEAST_TEXT, alikeBoxes, smallestText} from '../draw/papers.js';
+import {bench} from '../engine/bench.js';
+import {writeZip} from '../formats/zip.js';
+import {keep} from '../library/keep.js';
+import {withClues} from '../library/open.js';
+import {SAVE_TYPES, download, exportAs} from '../library/saving.js';
+import {LANGUAGE, phrase} from '../texts/phrase.js';
+import {addAction} from '../view/actions.js';
+import {openDialog} from '../view/dialogs.js';
+import {nearText, pairText} from '../view/dress.js';
+import {gradeAtHand} from '../view/grading.js';
+import {eachInTurn, withProgress} from '../view/progress.js';
+import {asSeen} from '../view/tools.js';
+import {SHEET_TEXTS, entryOf} from './entries.js';
+import {GRIDS, MOST_SHEETS, PAPERS, isLarge, makersOf, partsOf} from './sheets.js';
 
-const PAPER_NAMES = { a4: 'A4', a5: 'A5', letter: phrase('export.usLetter'), book: phrase('export.sixByNine') };
-const SHOWN = { colours: phrase('view.colours'), letters: phrase('export.letters'), signs: phrase('export.signs') };
-const MARGINS = [5, 40]; // millimetres
-const LEAST_CELL = 3; // millimetres that are filled easily
-const USUAL = { paper: 'a4', isWide: false, margin: 12, perSheet: 1, show: 'colours', answers: true, hasGrade: false };
-const chosen = { ...USUAL }; // as it was chosen last; `show` for the open puzzle alone
-const page = { rule: -1 }; // the place of the rule for the size of paper, in the page's style
+const PAPER_NAMES = {
+  a4: 'A4',
+  a5: 'A5',
+  letter: phrase('export.usLetter'),
+  book: phrase('export.sixByNine')
+};
+const SHOWN = {
+  colours: phrase('view.colours'),
+  letters: phrase('export.letters'),
+  signs: phrase('export.signs')
+};
+const MARGINS = [5, 40];  // millimetres
+const LEAST_CELL = 3;     // millimetres that are filled easily
+const USUAL = {
+  paper: 'a4',
+  isWide: false,
+  margin: 12,
+  perSheet: 1,
+  show: 'colours',
+  answers: true,
+  hasGrade: false
+};
+const chosen = {...USUAL};  // as it was chosen last; `show` for the open puzzle alone
+const page = {
+  rule: -1
+};  // the place of the rule for the size of paper, in the page's style
 
 /** What somebody who solves the puzzle should not be left to find out. */
 export const WARNINGS = {
@@ -36,13 +56,22 @@ export const WARNINGS = {
 };
 
 /** The puzzle that is seen, with its clues, as the engine told them. */
-export const puzzleOf = ({ state, name }) => ({ doc: docOf(state), clues: state.clues, name, grade: gradeAtHand()?.word ?? null, verdict: state.verdict.word });
+export const puzzleOf = ({state, name}) => ({
+  doc: docOf(state),
+  clues: state.clues,
+  name,
+  grade: gradeAtHand()?.word ?? null,
+  verdict: state.verdict.word
+});
 
 // How colours are told before one chooses: where they cannot be told apart, by letters.
 const shownFirst = (near) => (near && chosen.show === 'colours' ? 'letters' : chosen.show);
-const makersFor = (puzzles, options) => makersOf(puzzles.map((one) => entryOf(one, options)), { ...options, texts: SHEET_TEXTS });
+const makersFor = (puzzles, options) =>
+    makersOf(puzzles.map((one) => entryOf(one, options)), {...options, texts: SHEET_TEXTS});
 
-/** What comes of each sheet of puzzles, one after the other; null where `progress` does not go on. */
+/**
+ * What comes of each sheet of puzzles, one after the other; null where `progress` does not go on.
+ */
 export async function sheetsInTurn(puzzles, options, progress, take = (sheet) => sheet) {
   const makers = makersFor(puzzles, options);
   const sheets = await eachInTurn(makers, progress, (makeSheet) => take(makeSheet()));
@@ -51,169 +80,294 @@ export async function sheetsInTurn(puzzles, options, progress, take = (sheet) =>
 
 // ---- the browser's print
 
-// The size of the paper is a rule of the style: by the style's own interface, since the page's policy allows no other style.
-function setPaper({ width, height }) {
+// The size of the paper is a rule of the style: by the style's own interface, since the page's
+// policy allows no other style.
+function setPaper({width, height}) {
   const [style] = document.styleSheets;
   if (page.rule >= 0) style.deleteRule(page.rule);
-  page.rule = style.insertRule(`@page { size: ${width}mm ${height}mm; margin: 0; }`, style.cssRules.length);
+  page.rule =
+      style.insertRule(`@page { size: ${width}mm ${height}mm; margin: 0; }`, style.cssRules.length);
 }
 
 // A sheet as a part of the page that is printed.
-const drawingOf = (svg) => document.importNode(new DOMParser().parseFromString(svg, 'image/svg+xml').documentElement, true);
-const printedOf = ({ svg, width, height }) => ({ width, height, part: make('section', { class: 'printed' }, drawingOf(svg)) });
+const drawingOf = (svg) => document.importNode(
+    new DOMParser().parseFromString(svg, 'image/svg+xml').documentElement, true
+);
+const printedOf = ({svg, width, height}) =>
+    ({width, height, part: make('section', {class: 'printed'}, drawingOf(svg))});
 
 /** Fills the part of the page that is printed. */
 function fillPrint(sheets) {
   setPaper(sheets[0]);
-  $('print').replaceChildren(...sheets.map(({ part }) => part));
+  $('print').replaceChildren(...sheets.map(({part}) => part));
 }
 
 function saveSvg(name, sheets, isZip) {
   if (!isZip) return exportAs(name, 'svg', sheets[0].svg, '-print');
-  const files = sheets.map(({ svg }, at) => ({ name: `${name} ${String(at + 1).padStart(2, '0')}.svg`, bytes: new TextEncoder().encode(svg) }));
+  const files = sheets.map(({svg}, at) => ({
+                             name: `${name} ${String(at + 1).padStart(2, '0')}.svg`,
+                             bytes: new TextEncoder().encode(svg)
+                           }));
   download(writeZip(files), `${name}-print.zip`, SAVE_TYPES.zip.type);
-  return say(phrase('export.sheetsSavedPrintZip', { sheets: files.length, name }));
+  return say(phrase('export.sheetsSavedPrintZip', {sheets: files.length, name}));
 }
 
 // ---- what is asked
 
-const choice = (id, options, value) => choiceOf({ id }, Object.entries(options), String(value));
+const choice = (id, options, value) => choiceOf({id}, Object.entries(options), String(value));
 
-// Puzzles come in the order of their names, as they are called in the library: "2 cat" before "10 dog".
-const byName = (one, other) => one.name.localeCompare(other.name, LANGUAGE, { numeric: true });
+// Puzzles come in the order of their names, as they are called in the library: "2 cat" before "10
+// dog".
+const byName = (one, other) => one.name.localeCompare(other.name, LANGUAGE, {numeric: true});
 
 // The other pictures of the library, to be printed with this one.
 async function otherCards() {
-  const { id } = keep;
+  const {id} = keep;
   const keeper = await keep.ready();
   return (await keeper.cards().catch(() => [])).filter((card) => card.id !== id).sort(byName);
 }
 
 function libraryPart(cards) {
-  const boxes = cards.map(() => make('input', { type: 'checkbox' }));
-  const all = make('input', { type: 'checkbox', id: 'print-all', onchange: () => { for (const box of boxes) box.checked = all.checked; } });
-  const facts = (card) => [card.name, sizeText(card.doc), card.verdict && card.verdict !== 'unique' ? verdictName(card.verdict) : ''].filter(Boolean).join(', ');
-  const part = make('details', { id: 'print-others' }, make('summary', {}, phrase('export.othersLibrary', { count: cards.length })), make('label', {}, all, phrase('export.all')), ...cards.map((card, at) => make('label', {}, boxes[at], facts(card))));
-  return { part: cards.length ? part : '', chosen: () => cards.filter((_, at) => boxes[at].checked) };
+  const boxes = cards.map(() => make('input', {type: 'checkbox'}));
+  const all = make('input', {
+    type: 'checkbox',
+    id: 'print-all',
+    onchange: () => {
+      for (const box of boxes) box.checked = all.checked;
+    }
+  });
+  const facts =
+      (card) => [card.name,
+                 sizeText(card.doc),
+                 card.verdict && card.verdict !== 'unique' ? verdictName(card.verdict) : '']
+                    .filter(Boolean)
+                    .join(', ');
+  const part = make(
+      'details',
+      {id: 'print-others'},
+      make('summary', {}, phrase('export.othersLibrary', {count: cards.length})),
+      make('label', {}, all, phrase('export.all')),
+      ...cards.map((card, at) => make('label', {}, boxes[at], facts(card)))
+  );
+  return {part: cards.length ? part : '', chosen: () => cards.filter((_, at) => boxes[at].checked)};
 }
 
 function printFields(own, near) {
-  const tick = (id, checked) => make('input', { type: 'checkbox', id, checked });
+  const tick = (id, checked) => make('input', {type: 'checkbox', id, checked});
   const fields = {
-    title: make('input', { type: 'text', id: 'print-title', value: own.doc.about.title || own.name, maxlength: '200' }),
-    paper: choice('print-paper', PAPER_NAMES, chosen.paper), wide: tick('print-wide', chosen.isWide),
-    margin: make('input', { type: 'number', id: 'print-margin', min: MARGINS[0], max: MARGINS[1], value: chosen.margin }),
-    perSheet: choice('print-count', Object.fromEntries(Object.keys(GRIDS).map((count) => [count, count])), chosen.perSheet),
+    title: make(
+        'input',
+        {type: 'text', id: 'print-title', value: own.doc.about.title || own.name, maxlength: '200'}
+    ),
+    paper: choice('print-paper', PAPER_NAMES, chosen.paper),
+    wide: tick('print-wide', chosen.isWide),
+    margin: make(
+        'input',
+        {type: 'number', id: 'print-margin', min: MARGINS[0], max: MARGINS[1], value: chosen.margin}
+    ),
+    perSheet: choice(
+        'print-count',
+        Object.fromEntries(Object.keys(GRIDS).map((count) => [count, count])),
+        chosen.perSheet
+    ),
     show: choice('print-show', SHOWN, shownFirst(near)),
-    answers: tick('print-answers', chosen.answers), grade: tick('print-grade', chosen.hasGrade),
+    answers: tick('print-answers', chosen.answers),
+    grade: tick('print-grade', chosen.hasGrade),
   };
   if (near) fields.show.querySelector('[value="colours"]').disabled = true;
-  const gradeText = own.grade ? phrase('export.gradeField', { word: gradeName(own.grade) }) : phrase('export.gradeWhereOneKnown');
-  const rows = [make('label', {}, phrase('export.sheetTitle'), fields.title), make('div', { class: 'group apart' }, make('label', {}, phrase('export.paper'), fields.paper), make('label', {}, fields.wide, phrase('export.landscape')), make('label', {}, phrase('export.marginMm'), fields.margin)),
-    make('div', { class: 'group apart' }, make('label', {}, phrase('export.puzzlesSheet'), fields.perSheet), make('label', {}, phrase('export.coloursShown'), fields.show)), make('label', {}, fields.answers, phrase('export.solutionsEnd')), make('label', {}, fields.grade, gradeText)];
-  return { fields, rows };
+  const gradeText = own.grade ? phrase('export.gradeField', {word: gradeName(own.grade)}) :
+                                phrase('export.gradeWhereOneKnown');
+  const rows = [
+    make('label', {}, phrase('export.sheetTitle'), fields.title),
+    make(
+        'div',
+        {class: 'group apart'},
+        make('label', {}, phrase('export.paper'), fields.paper),
+        make('label', {}, fields.wide, phrase('export.landscape')),
+        make('label', {}, phrase('export.marginMm'), fields.margin)
+    ),
+    make(
+        'div',
+        {class: 'group apart'},
+        make('label', {}, phrase('export.puzzlesSheet'), fields.perSheet),
+        make('label', {}, phrase('export.coloursShown'), fields.show)
+    ),
+    make('label', {}, fields.answers, phrase('export.solutionsEnd')),
+    make('label', {}, fields.grade, gradeText)
+  ];
+  return {fields, rows};
 }
 
-function readFields({ paper, wide, margin, perSheet, show, answers, grade }) {
+function readFields({paper, wide, margin, perSheet, show, answers, grade}) {
   const side = Number(margin.value);
-  return { paper: paper.value in PAPERS ? paper.value : USUAL.paper, isWide: wide.checked, margin: clamp(Number.isFinite(side) ? side : USUAL.margin, ...MARGINS), perSheet: Number(perSheet.value), show: show.value, answers: answers.checked, hasGrade: grade.checked };
+  return {
+    paper: paper.value in PAPERS ? paper.value : USUAL.paper,
+    isWide: wide.checked,
+    margin: clamp(Number.isFinite(side) ? side : USUAL.margin, ...MARGINS),
+    perSheet: Number(perSheet.value),
+    show: show.value,
+    answers: answers.checked,
+    hasGrade: grade.checked
+  };
 }
 
 // That cells or numbers of puzzles are small on their sheets; '' where none are.
-function smallOn(sheets, puzzles, { show }) {
+function smallOn(sheets, puzzles, {show}) {
   const cell = Math.min(...sheets.map((sheet) => sheet.cell ?? Infinity));
   const text = cell * Math.min(...puzzles.map((one) => smallestText(one, show)));
   const tenths = (value) => Math.round(value * 10) / 10;
-  if (cell < LEAST_CELL) return phrase('export.smallestCellsMmWide', { value: tenths(cell) });
-  return text < LEAST_TEXT ? phrase('export.smallestNumbersMmHigh', { value: tenths(text) }) : '';
+  if (cell < LEAST_CELL) return phrase('export.smallestCellsMmWide', {value: tenths(cell)});
+  return text < LEAST_TEXT ? phrase('export.smallestNumbersMmHigh', {value: tenths(text)}) : '';
 }
 
 // That clues in two colours look alike on paper; '' where none do.
 function tintsText(doc) {
   const pair = alikeBoxes(doc);
-  return pair ? phrase('export.tintsAlike', { pair: pairText(doc, pair[0], pair[1]) }) : '';
+  return pair ? phrase('export.tintsAlike', {pair: pairText(doc, pair[0], pair[1])}) : '';
 }
 
-// What is to be known before puzzles are printed: what is wrong with them, how many sheets they take, and what is small on these.
+// What is to be known before puzzles are printed: what is wrong with them, how many sheets they
+// take, and what is small on these.
 function notesOn(puzzles, sheets, options) {
   const inColours = options.show === 'colours';
-  const named = ({ name }, text) => (text && puzzles.length > 1 ? phrase('import.certificateSays', { name, text }) : text);
+  const named = ({name}, text) =>
+      (text && puzzles.length > 1 ? phrase('import.certificateSays', {name, text}) : text);
   const coloursText = (one, near) => {
     if (!near) return inColours ? named(one, tintsText(one.doc)) : '';
-    return inColours ? phrase('export.printLettersSigns', { name: one.name, near }) : named(one, phrase('export.soSheetLettersSigns', { near }));
+    return inColours ? phrase('export.printLettersSigns', {name: one.name, near}) :
+                       named(one, phrase('export.soSheetLettersSigns', {near}));
   };
-  const wrong = puzzles.flatMap((one) => [named(one, WARNINGS[one.verdict]), coloursText(one, nearText(one.doc))]);
-  const large = puzzles.filter(isLarge).map((one) => named(one, phrase('export.goesOverSheetsMap', { sheets: partsOf(one.doc).length })));
-  const lines = (kind, texts) => texts.filter(Boolean).map((text) => make('p', { class: kind }, text));
-  return [...lines('wrong', wrong), ...lines('faint', large), make('p', { class: 'faint', id: 'print-small' }, smallOn(sheets, puzzles, options))];
+  const wrong = puzzles.flatMap(
+      (one) => [named(one, WARNINGS[one.verdict]), coloursText(one, nearText(one.doc))]
+  );
+  const large = puzzles.filter(isLarge
+  ).map((one) => named(one, phrase('export.goesOverSheetsMap', {sheets: partsOf(one.doc).length})));
+  const lines = (kind, texts) =>
+      texts.filter(Boolean).map((text) => make('p', {class: kind}, text));
+  return [
+    ...lines('wrong', wrong),
+    ...lines('faint', large),
+    make('p', {class: 'faint', id: 'print-small'}, smallOn(sheets, puzzles, options))
+  ];
 }
 
-// A puzzle and those of some cards, with the runs of their pictures, to foresee their sheets: what is printed has the engine's clues.
+// A puzzle and those of some cards, with the runs of their pictures, to foresee their sheets: what
+// is printed has the engine's clues.
 async function foreseen(own, cards) {
-  const records = await Promise.all(cards.map(async ({ id, grade, verdict }) => ({ ...(await keep.keeper.record(id)), grade, verdict })));
-  return [own, ...records.filter(({ doc }) => doc).map((one) => ({ ...one, clues: runsOf(one.doc) }))].sort(byName);
+  const records = await Promise.all(cards.map(
+      async ({id, grade, verdict}) => ({...(await keep.keeper.record(id)), grade, verdict})
+  ));
+  return [
+    own,
+    ...records.filter(({doc}) => doc).map((one) => ({...one, clues: runsOf(one.doc)}))
+  ].sort(byName);
 }
 
-// The puzzles of some cards, opened; null where that is stopped, and, told, where one is damaged, does not open, or has colours that cannot be told apart.
-async function openedOf(cards, { show }, progress) {
+// The puzzles of some cards, opened; null where that is stopped, and, told, where one is damaged,
+// does not open, or has colours that cannot be told apart.
+async function openedOf(cards, {show}, progress) {
   const records = [];
-  for (const { id, name, grade } of cards) {
+  for (const {id, name, grade} of cards) {
     const record = await keep.keeper.record(id);
-    if (!record) return void say(phrase('import.certificateSays', { name, text: phrase('library.pictureLibraryDamagedCould') }), 'alarm');
-    records.push({ ...record, grade });
+    if (!record)
+      return void say(
+          phrase(
+              'import.certificateSays', {name, text: phrase('library.pictureLibraryDamagedCould')}
+          ),
+          'alarm'
+      );
+    records.push({...record, grade});
   }
-  const alike = records.find(({ doc }) => show === 'colours' && nearText(doc));
-  if (alike) return void say(phrase('export.printLettersSigns', { name: alike.name, near: nearText(alike.doc) }), 'alarm');
+  const alike = records.find(({doc}) => show === 'colours' && nearText(doc));
+  if (alike)
+    return void say(
+        phrase('export.printLettersSigns', {name: alike.name, near: nearText(alike.doc)}), 'alarm'
+    );
   return withClues(records, undefined, progress);
 }
 
 const printPuzzle = () => asSeen(async (seen) => {
   const own = puzzleOf(seen);
   const near = nearText(own.doc);
-  const { fields, rows } = printFields(own, near);
+  const {fields, rows} = printFields(own, near);
   const others = libraryPart(await otherCards());
-  const notes = make('div', { id: 'print-notes', role: 'status' });
+  const notes = make('div', {id: 'print-notes', role: 'status'});
   const svgName = make('span');
-  const titled = () => ({ ...own, doc: { ...own.doc, about: { ...own.doc.about, title: fields.title.value.trim() } } });
+  const titled = () =>
+      ({...own, doc: {...own.doc, about: {...own.doc.about, title: fields.title.value.trim()}}});
   let [turn, tooMany] = [0, ''];
   const showNotes = async () => {
     const [ownTurn, options, cards] = [++turn, readFields(fields), others.chosen()];
     const count = makersOf([own, ...cards].sort(byName), options).length;
-    tooMany = count > MOST_SHEETS ? phrase('export.mostSheets', { sheets: count, most: MOST_SHEETS }) : '';
-    svgName.textContent = count > 1 || cards.length ? phrase('export.saveSvgs') : phrase('export.saveSvg');
-    if (tooMany) return notes.replaceChildren(make('p', { class: 'wrong' }, tooMany));
+    tooMany =
+        count > MOST_SHEETS ? phrase('export.mostSheets', {sheets: count, most: MOST_SHEETS}) : '';
+    svgName.textContent =
+        count > 1 || cards.length ? phrase('export.saveSvgs') : phrase('export.saveSvg');
+    if (tooMany) return notes.replaceChildren(make('p', {class: 'wrong'}, tooMany));
     const puzzles = await foreseen(titled(), cards);
     const goesOn = async () => {
       await new Promise((go) => setTimeout(go));
       return ownTurn === turn;
     };
-    const sheets = await sheetsInTurn(puzzles, options, { goesOn }, ({ cell }) => ({ cell }));
+    const sheets = await sheetsInTurn(puzzles, options, {goesOn}, ({cell}) => ({cell}));
     if (sheets) notes.replaceChildren(...notesOn(puzzles, sheets, options));
   };
-  const content = make('div', { onchange: showNotes }, make('div', { class: 'rows' }, ...rows, others.part), notes);
+  const content =
+      make('div', {onchange: showNotes}, make('div', {class: 'rows'}, ...rows, others.part), notes);
   await showNotes();
-  const way = await openDialog({ title: phrase('export.print'), content, wide: true, buttons: [{ name: svgName, value: 'svg', test: () => tooMany }, { name: opening(phrase('export.print')), value: 'print', main: true, test: () => tooMany }] });
+  const way = await openDialog({
+    title: phrase('export.print'),
+    content,
+    wide: true,
+    buttons: [
+      {name: svgName, value: 'svg', test: () => tooMany},
+      {name: opening(phrase('export.print')), value: 'print', main: true, test: () => tooMany}
+    ]
+  });
   turn++;
   if (!way) return;
   const options = readFields(fields);
-  Object.assign(chosen, options, (bench.term !== seen.term || options.show === shownFirst(near)) && { show: chosen.show }); // what was only proposed is not chosen
+  Object.assign(
+      chosen,
+      options,
+      (bench.term !== seen.term || options.show === shownFirst(near)) && {show: chosen.show}
+  );  // what was only proposed is not chosen
   const sheets = await withProgress(phrase('export.print'), async (progress) => {
     const opened = await openedOf(others.chosen(), options, progress);
-    return opened && sheetsInTurn([titled(), ...opened].sort(byName), options, progress, way === 'print' ? printedOf : undefined);
+    return opened &&
+        sheetsInTurn(
+               [titled(), ...opened].sort(byName),
+               options,
+               progress,
+               way === 'print' ? printedOf : undefined
+        );
   });
   if (!sheets) return;
-  if (way === 'svg') return saveSvg(own.name, sheets, sheets.length > 1 || others.chosen().length > 0);
+  if (way === 'svg')
+    return saveSvg(own.name, sheets, sheets.length > 1 || others.chosen().length > 0);
   fillPrint(sheets);
   globalThis.print();
 });
 
 /** Adds print to the menu File. */
 export function startPrinting() {
-  addAction({ id: 'print', name: opening(phrase('export.print')), key: 'Ctrl+P', place: 'file', group: 'export', run: printPuzzle });
-  on('opened', () => { chosen.show = USUAL.show; });
+  addAction({
+    id: 'print',
+    name: opening(phrase('export.print')),
+    key: 'Ctrl+P',
+    place: 'file',
+    group: 'export',
+    run: printPuzzle
+  });
+  on('opened', () => {
+    chosen.show = USUAL.show;
+  });
   // What is opened by the browser's own print, without the dialog, is a sheet too.
   addEventListener('beforeprint', () => {
-    if (bench.state && !$('print').children.length) fillPrint(makersFor([puzzleOf(bench)], { ...chosen, show: shownFirst(nearText(bench.state)) }).map((makeSheet) => printedOf(makeSheet())));
+    if (bench.state && !$('print').children.length)
+      fillPrint(makersFor(
+                    [puzzleOf(bench)], {...chosen, show: shownFirst(nearText(bench.state))}
+      ).map((makeSheet) => printedOf(makeSheet())));
   });
   addEventListener('afterprint', () => $('print').replaceChildren());
 }

@@ -1,6 +1,6 @@
 // Bytes deflated, without a head, and back: by the browser's own streams.
 
-import { phrase } from '../texts/phrase.js';
+import {phrase} from '../texts/phrase.js';
 
 /** Pieces of bytes as one. */
 export function joined(pieces) {
@@ -14,19 +14,23 @@ export function joined(pieces) {
 }
 
 /** Bytes, deflated. */
-export const deflated = async (bytes) => new Uint8Array(await new Response(new Blob([bytes]).stream().pipeThrough(new CompressionStream('deflate-raw'))).arrayBuffer());
+export const deflated = async (bytes) =>
+    new Uint8Array(await new Response(
+                       new Blob([bytes]).stream().pipeThrough(new CompressionStream('deflate-raw'))
+    ).arrayBuffer());
 
 /** What was deflated. Throws where the bytes are damaged, or come to more than `most`. */
 export async function inflated(raw, most) {
-  const reader = new Blob([raw]).stream().pipeThrough(new DecompressionStream('deflate-raw')).getReader();
+  const reader =
+      new Blob([raw]).stream().pipeThrough(new DecompressionStream('deflate-raw')).getReader();
   const pieces = [];
   let size = 0;
   try {
     for (;;) {
-      const { done, value } = await reader.read();
+      const {done, value} = await reader.read();
       if (done) return joined(pieces);
       size += value.length;
-      if (size > most) throw new RangeError(phrase('formats.moreBytes', { most }));
+      if (size > most) throw new RangeError(phrase('formats.moreBytes', {most}));
       pieces.push(value);
     }
   } finally {

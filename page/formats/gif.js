@@ -1,9 +1,9 @@
 // GIF89a, written: an animation of parts of one picture over one another.
 
-import { joined } from './deflate.js';
+import {joined} from './deflate.js';
 
 const MOST_CODES = 4096;
-const MOST_BLOCK = 255; // bytes
+const MOST_BLOCK = 255;  // bytes
 
 const bitsFor = (colours) => Math.max(2, Math.ceil(Math.log2(colours)));
 const word = (value) => [value & 255, value >> 8];
@@ -67,20 +67,32 @@ function inBlocks(bytes) {
   return [...blocks, 0];
 }
 
-function frameBytes({ x, y, width, height, pixels, delay }, bits) {
-  const control = [0x21, 0xf9, 4, 1 << 2, ...word(delay), 0, 0]; // what is drawn stays
-  return [...control, 0x2c, ...word(x), ...word(y), ...word(width), ...word(height), 0, bits, ...inBlocks(packed(pixels, bits))];
+function frameBytes({x, y, width, height, pixels, delay}, bits) {
+  const control = [0x21, 0xf9, 4, 1 << 2, ...word(delay), 0, 0];  // what is drawn stays
+  return [
+    ...control,
+    0x2c,
+    ...word(x),
+    ...word(y),
+    ...word(width),
+    ...word(height),
+    0,
+    bits,
+    ...inBlocks(packed(pixels, bits))
+  ];
 }
 
 /**
- * An animation that begins anew at its end. `palette` has 1 to 256 colours, [red, green, blue] of 0 to 255; a frame is {x, y, width, height,
- * pixels, delay}: a part of the picture, row by row as numbers of colours, and how many hundredths of a second it is seen.
+ * An animation that begins anew at its end. `palette` has 1 to 256 colours, [red, green, blue] of 0
+ * to 255; a frame is {x, y, width, height, pixels, delay}: a part of the picture, row by row as
+ * numbers of colours, and how many hundredths of a second it is seen.
  */
-export function writeGif({ width, height, palette, frames }) {
+export function writeGif({width, height, palette, frames}) {
   const bits = bitsFor(palette.length);
-  const colours = Array.from({ length: 1 << bits }, (_, at) => palette[at] ?? [0, 0, 0]).flat();
+  const colours = Array.from({length: 1 << bits}, (_, at) => palette[at] ?? [0, 0, 0]).flat();
   const text = (name) => [...name].map((letter) => letter.charCodeAt(0));
-  const head = [...text('GIF89a'), ...word(width), ...word(height), 0xf0 | (bits - 1), 0, 0, ...colours];
+  const head =
+      [...text('GIF89a'), ...word(width), ...word(height), 0xf0 | (bits - 1), 0, 0, ...colours];
   const loop = [0x21, 0xff, 11, ...text('NETSCAPE2.0'), 3, 1, 0, 0, 0];
   return joined([head, loop, ...frames.map((frame) => frameBytes(frame, bits)), [0x3b]]);
 }

@@ -1,10 +1,10 @@
 // Plain and raw PPM pictures (P3 and P6), read as images of 8-bit samples whatever their maxval is.
 
-import { FileFault } from '../document/limits.js';
-import { phrase } from '../texts/phrase.js';
+import {FileFault} from '../document/limits.js';
+import {phrase} from '../texts/phrase.js';
 
-export const MOST_BYTES_READ = 16 * 1024 * 1024; // of a file
-const MOST_PIXELS = 4096; // of an image, a side
+export const MOST_BYTES_READ = 16 * 1024 * 1024;  // of a file
+const MOST_PIXELS = 4096;                         // of an image, a side
 
 export const isBlankByte = (byte) => byte === 32 || (byte >= 9 && byte <= 13);
 const PPM_COMMENT = 35;
@@ -17,25 +17,30 @@ class PpmTokens {
   }
 
   skip() {
-    const { bytes } = this;
+    const {bytes} = this;
     while (this.at < bytes.length) {
-      if (isBlankByte(bytes[this.at])) this.at++;
-      else if (bytes[this.at] === PPM_COMMENT) while (this.at < bytes.length && bytes[this.at] !== 10 && bytes[this.at] !== 13) this.at++;
-      else return;
+      if (isBlankByte(bytes[this.at]))
+        this.at++;
+      else if (bytes[this.at] === PPM_COMMENT)
+        while (this.at < bytes.length && bytes[this.at] !== 10 && bytes[this.at] !== 13) this.at++;
+      else
+        return;
     }
   }
 
   number(what) {
     this.skip();
-    const { bytes } = this;
+    const {bytes} = this;
     const from = this.at;
     let value = 0;
-    for (; this.at < bytes.length && !isBlankByte(bytes[this.at]) && bytes[this.at] !== PPM_COMMENT; this.at++) {
+    for (; this.at < bytes.length && !isBlankByte(bytes[this.at]) && bytes[this.at] !== PPM_COMMENT;
+         this.at++) {
       const digit = bytes[this.at] - 48;
-      if (digit < 0 || digit > 9) throw new FileFault(phrase('formats.picturesByteNoNumber', { what, from }));
+      if (digit < 0 || digit > 9)
+        throw new FileFault(phrase('formats.picturesByteNoNumber', {what, from}));
       value = Math.min(value * 10 + digit, 1e9);
     }
-    if (this.at === from) throw new FileFault(phrase('formats.pictureEndsBefore', { what }));
+    if (this.at === from) throw new FileFault(phrase('formats.pictureEndsBefore', {what}));
     return value;
   }
 }
@@ -44,15 +49,20 @@ class PpmTokens {
 function boundSides(width, height) {
   if (width < 1 || height < 1) throw new FileFault(phrase('formats.pictureNoPixels'));
   if (width > MOST_PIXELS || height > MOST_PIXELS) {
-    throw new FileFault(phrase('formats.picturePixelsMostSide', { width, height, most: MOST_PIXELS }));
+    throw new FileFault(phrase('formats.picturePixelsMostSide', {width, height, most: MOST_PIXELS})
+    );
   }
 }
 
-/** An image `{ width, height, data }` of 8-bit red, green, blue and alpha, from the bytes of a P3 or P6 picture, with its `maxval`. */
+/**
+ * An image `{ width, height, data }` of 8-bit red, green, blue and alpha, from the bytes of a P3
+ * or P6 picture, with its `maxval`.
+ */
 export function readPpm(bytes) {
-  const raw = bytes[1] === 54; // P6
+  const raw = bytes[1] === 54;  // P6
   const tokens = new PpmTokens(bytes);
-  const [width, height] = [tokens.number(phrase('formats.width')), tokens.number(phrase('formats.height'))];
+  const [width, height] =
+      [tokens.number(phrase('formats.width')), tokens.number(phrase('formats.height'))];
   boundSides(width, height);
   const maxval = tokens.number(phrase('formats.maxval'));
   if (maxval < 1 || maxval > 65535) throw new FileFault(phrase('formats.picturesMaxvalNotFrom'));
@@ -65,21 +75,26 @@ export function readPpm(bytes) {
       continue;
     }
     const sample = next();
-    if (sample > maxval) throw new FileFault(phrase('formats.sampleAboveMaxval', { sample, maxval }));
+    if (sample > maxval) throw new FileFault(phrase('formats.sampleAboveMaxval', {sample, maxval}));
     data[at] = Math.round((sample * 255) / maxval);
   }
   tokens.skip();
   if (!raw && tokens.at < bytes.length) throw new FileFault(phrase('formats.thereMoreBehindLast'));
-  return { width, height, data, maxval };
+  return {width, height, data, maxval};
 }
 
-// One white space stands behind the maxval of a raw picture, and then come its samples, of two bytes where maxval is above 255.
+// One white space stands behind the maxval of a raw picture, and then come its samples, of two
+// bytes where maxval is above 255.
 function rawSamples(tokens, maxval, count) {
-  const { bytes } = tokens;
+  const {bytes} = tokens;
   const size = maxval > 255 ? 2 : 1;
-  if (bytes[tokens.at] === PPM_COMMENT) throw new FileFault(phrase('formats.picturesByteNoNumber', { what: phrase('formats.maxval'), from: tokens.at }));
+  if (bytes[tokens.at] === PPM_COMMENT)
+    throw new FileFault(
+        phrase('formats.picturesByteNoNumber', {what: phrase('formats.maxval'), from: tokens.at})
+    );
   let at = tokens.at + 1;
-  if (bytes.length < at + count * size) throw new FileFault(phrase('formats.pictureEndsBeforeLast'));
+  if (bytes.length < at + count * size)
+    throw new FileFault(phrase('formats.pictureEndsBeforeLast'));
   return () => {
     const sample = size === 1 ? bytes[at] : bytes[at] * 256 + bytes[at + 1];
     at += size;

@@ -1,9 +1,12 @@
 // The image of a solution in Web Paint-by-Number's XML: rows of signs between bars.
 
-import { FileFault, MOST_CELLS } from '../document/limits.js';
-import { phrase } from '../texts/phrase.js';
+import {FileFault, MOST_CELLS} from '../document/limits.js';
+import {phrase} from '../texts/phrase.js';
 
-/** Rows of signs; a backslash takes the next sign as it stands, and `[..]` is a cell that may have several. */
+/**
+ * Rows of signs; a backslash takes the next sign as it stands, and `[..]` is a cell that may have
+ * several.
+ */
 export function readWebpbnImage(text) {
   const rows = [];
   let row = null;
@@ -19,7 +22,8 @@ export function readWebpbnImage(text) {
       if (!' \t\r\n'.includes(sign)) throw new FileFault(phrase('formats.rowSolutionDoesNot'));
       continue;
     }
-    if (sign === '\\') sign = signs[++at] ?? '';
+    if (sign === '\\')
+      sign = signs[++at] ?? '';
     else if (sign === '[') {
       const end = signs.indexOf(']', at);
       if (end < 0) throw new FileFault(phrase('formats.cellSolutionNoEnd'));
@@ -27,8 +31,10 @@ export function readWebpbnImage(text) {
       at = end;
     }
     row.push(sign);
-    if (row.length > MOST_CELLS || rows.length > MOST_CELLS) throw new FileFault(phrase('formats.solutionLarger', { most: MOST_CELLS }));
+    if (row.length > MOST_CELLS || rows.length > MOST_CELLS)
+      throw new FileFault(phrase('formats.solutionLarger', {most: MOST_CELLS}));
   }
-  if (row || !rows.length || !rows[0].length) throw new FileFault(phrase('formats.solutionNoPicture'));
+  if (row || !rows.length || !rows[0].length)
+    throw new FileFault(phrase('formats.solutionNoPicture'));
   return rows;
 }

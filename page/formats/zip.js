@@ -1,17 +1,17 @@
 // Archives: zip files that are written without compression, and read with it.
 
-import { FileFault } from '../document/limits.js';
-import { phrase } from '../texts/phrase.js';
-import { inflated, joined } from './deflate.js';
+import {FileFault} from '../document/limits.js';
+import {phrase} from '../texts/phrase.js';
+import {inflated, joined} from './deflate.js';
 
 const MOST_ENTRIES = 20000;
-const MOST_ENTRY = 16 * 1024 * 1024; // bytes of one file in an archive
-const MOST_UNPACKED = 512 * 1024 * 1024; // of all that are read
+const MOST_ENTRY = 16 * 1024 * 1024;      // bytes of one file in an archive
+const MOST_UNPACKED = 512 * 1024 * 1024;  // of all that are read
 const [LOCAL, CENTRAL, END] = [0x04034b50, 0x02014b50, 0x06054b50];
 const UTF8 = 0x0800;
-const DATE = 0x21; // the first day that a zip can tell: archives of the same pictures are the same
+const DATE = 0x21;  // the first day that a zip can tell: archives of the same pictures are the same
 
-const CRC_TABLE = Uint32Array.from({ length: 256 }, (_, byte) => {
+const CRC_TABLE = Uint32Array.from({length: 256}, (_, byte) => {
   let value = byte;
   for (let bit = 0; bit < 8; bit++) value = value & 1 ? 0xedb88320 ^ (value >>> 1) : value >>> 1;
   return value;
@@ -26,7 +26,9 @@ export function crcOf(bytes) {
 
 // Numbers of 2 or 4 bytes, the low byte first.
 function packed(...fields) {
-  return Uint8Array.from(fields.flatMap(([value, size]) => Array.from({ length: size }, (_, at) => (value >>> (8 * at)) & 255)));
+  return Uint8Array.from(fields.flatMap(
+      ([value, size]) => Array.from({length: size}, (_, at) => (value >>> (8 * at)) & 255)
+  ));
 }
 const two = (value) => [value, 2];
 const four = (value) => [value, 4];
@@ -37,10 +39,24 @@ export class ZipWriter {
   central = [];
   at = 0;
 
-  add({ name, bytes }) {
+  add({name, bytes}) {
     const title = new TextEncoder().encode(name);
-    const fields = [two(20), two(UTF8), two(0), two(0), two(DATE), four(crcOf(bytes)), four(bytes.length), four(bytes.length), two(title.length), two(0)];
-    this.central.push(joined([packed(four(CENTRAL), two(20), ...fields, two(0), two(0), two(0), four(0), four(this.at)), title]));
+    const fields = [
+      two(20),
+      two(UTF8),
+      two(0),
+      two(0),
+      two(DATE),
+      four(crcOf(bytes)),
+      four(bytes.length),
+      four(bytes.length),
+      two(title.length),
+      two(0)
+    ];
+    this.central.push(joined([
+      packed(four(CENTRAL), two(20), ...fields, two(0), two(0), two(0), four(0), four(this.at)),
+      title
+    ]));
     const piece = joined([packed(four(LOCAL), ...fields), title, bytes]);
     this.pieces.push(piece);
     this.at += piece.length;
@@ -48,7 +64,11 @@ export class ZipWriter {
 
   get bytes() {
     const [directory, count] = [joined(this.central), two(this.pieces.length)];
-    return joined([...this.pieces, directory, packed(four(END), two(0), two(0), count, count, four(directory.length), four(this.at), two(0))]);
+    return joined([
+      ...this.pieces,
+      directory,
+      packed(four(END), two(0), two(0), count, count, four(directory.length), four(this.at), two(0))
+    ]);
   }
 }
 
@@ -64,12 +84,16 @@ const damaged = () => new FileFault(phrase('formats.archiveDamaged'));
 // The names of files: all UTF-8, or else a letter for each byte, so that two names stay two.
 function namesOf(titles) {
   const decoded = (...kind) => titles.map((title) => new TextDecoder(...kind).decode(title));
-  try { return decoded('utf-8', { fatal: true, ignoreBOM: true }); } catch { return decoded('windows-1252'); }
+  try {
+    return decoded('utf-8', {fatal: true, ignoreBOM: true});
+  } catch {
+    return decoded('windows-1252');
+  }
 }
 
 /**
- * The files of a zip by their directory, each `{name, size, read}`: `read()` gives its bytes, or null for what is encrypted or too large,
- * whose size is Infinity.
+ * The files of a zip by their directory, each `{name, size, read}`: `read()` gives its bytes, or
+ * null for what is encrypted or too large, whose size is Infinity.
  */
 export function zipEntries(bytes) {
   const view = new DataView(bytes.buffer, bytes.byteOffset, bytes.byteLength);
@@ -85,19 +109,21 @@ export function zipEntries(bytes) {
     const [title, extra, comment] = [28, 30, 32].map((place) => view.getUint16(at + place, true));
     titles.push(bytes.subarray(at + 46, at + 46 + title));
     const place = at;
-    files.push({ size: unpackedSize(view, place), read: () => unpackedEntry(bytes, view, place) });
+    files.push({size: unpackedSize(view, place), read: () => unpackedEntry(bytes, view, place)});
     if (files.at(-1).size < Infinity) held += view.getUint32(place + 20, true);
     at += 46 + title + extra + comment;
   }
-  const whole = files.reduce((sum, { size }) => sum + (size < Infinity ? size : 0), 0);
+  const whole = files.reduce((sum, {size}) => sum + (size < Infinity ? size : 0), 0);
   if (whole > MOST_UNPACKED) throw new FileFault(phrase('formats.archiveTooManyFiles'));
-  if (held > bytes.length) throw damaged(); // entries that lie over one another would be unpacked again and again
+  if (held > bytes.length)
+    throw damaged();  // entries that lie over one another would be unpacked again and again
   const names = namesOf(titles);
-  return files.map((file, at) => ({ name: names[at], ...file }));
+  return files.map((file, at) => ({name: names[at], ...file}));
 }
 
 function unpackedSize(view, at) {
-  const [flags, method, length] = [view.getUint16(at + 8, true), view.getUint16(at + 10, true), view.getUint32(at + 24, true)];
+  const [flags, method, length] =
+      [view.getUint16(at + 8, true), view.getUint16(at + 10, true), view.getUint32(at + 24, true)];
   return flags & 1 || ![0, 8].includes(method) || length > MOST_ENTRY ? Infinity : length;
 }
 
@@ -110,7 +136,9 @@ async function unpackedEntry(bytes, view, at) {
   const from = local + 30 + view.getUint16(local + 26, true) + view.getUint16(local + 28, true);
   if (from + size > bytes.length) throw damaged();
   const raw = bytes.subarray(from, from + size);
-  const whole = method === 0 ? raw : await inflated(raw, length).catch(() => { throw damaged(); });
+  const whole = method === 0 ? raw : await inflated(raw, length).catch(() => {
+    throw damaged();
+  });
   if (whole.length !== length || crcOf(whole) !== crc) throw damaged();
   return whole;
 }

@@ -1,60 +1,90 @@
-// How much a browser draws of an SVG drawing: each element, as often as `use`, patterns, markers, masks, clips and filters repeat it.
+// How much a browser draws of an SVG drawing: each element, as often as `use`, patterns, markers,
+// masks, clips and filters repeat it.
 
 /** The elements that a drawing may come to. */
 export const MOST_DRAWN = 20000;
 
-const MOST_ATTRIBUTES = 100; // of an element: to look at each takes the browser a time like the square of their number
+const MOST_ATTRIBUTES =
+    100;  // of an element: to look at each takes the browser a time like the square of their number
 
 const GRADIENTS = new Set(['linearGradient', 'radialGradient']);
-const TARGETS = new Set(['pattern', 'marker', 'mask', 'clipPath', 'filter']); // drawn where an address names them
-const HIDDEN = new Set([...GRADIENTS, ...TARGETS, 'defs', 'symbol', 'style', 'script', 'title', 'desc', 'metadata']);
+const TARGETS = new Set(['pattern', 'marker', 'mask', 'clipPath', 'filter']
+);  // drawn where an address names them
+const HIDDEN = new Set(
+    [...GRADIENTS, ...TARGETS, 'defs', 'symbol', 'style', 'script', 'title', 'desc', 'metadata']
+);
 const STYLED = /^(fill|stroke|mask|filter|clip-path|marker(-\w+)?)$/;
-const ONCE = /^(href|mask|filter|clip-path)$/; // for an element as a whole: what is inside inherits the others
+const ONCE = /^(href|mask|filter|clip-path)$/;  // for an element as a whole: what is inside
+                                                // inherits the others
 
 // What stands outside of comments, one that has no end among them.
-const uncommented = (text) => text.split('/*').map((part, at) => (at ? part.slice((`${part}*/`).indexOf('*/') + 2) : part)).join(' ');
+const uncommented = (text) =>
+    text.split('/*').map(
+                        (part, at) => (at ? part.slice((`${part}*/`).indexOf('*/') + 2) : part)
+    ).join(' ');
 
 /** A text without the escapes of CSS. */
-export const unescaped = (text) => text.replace(/\\([0-9a-f]{1,6})\s?/gi, (_, code) => String.fromCharCode(parseInt(code, 16))).replaceAll('\\', '');
+export const unescaped = (text) =>
+    text.replace(
+            /\\([0-9a-f]{1,6})\s?/gi, (_, code) => String.fromCharCode(parseInt(code, 16))
+    ).replaceAll('\\', '');
 
-const isLong = (text) => text.split(/[{;(\\]|\/\*/, MOST_DRAWN + 1).length > MOST_DRAWN; // CSS with more in it than is looked at
+const isLong = (text) => text.split(/[{;(\\]|\/\*/, MOST_DRAWN + 1).length >
+    MOST_DRAWN;  // CSS with more in it than is looked at
 
 // An address of a property: the id as it is told, and without its escapes.
-const addressOf = (property, id) => [property, id.trim(), unescape(id.trim().replace(/[\t\n\r]/g, ''))];
+const addressOf =
+    (property, id) => [property, id.trim(), unescape(id.trim().replace(/[\t\n\r]/g, ''))];
 
 // The addresses in plain CSS declarations.
 function addressesIn(text) {
   return text.split(';').flatMap((one) => {
     const property = one.split(':', 1)[0].trim().toLowerCase();
-    return Array.from(one.matchAll(/url\([\s"']*#([^"')]+)/gi), ([, id]) => addressOf(property, id));
+    return Array.from(one.matchAll(/url\([\s"']*#([^"')]+)/gi), ([,
+                                                                  id]) => addressOf(property, id));
   });
 }
 
-// Lists of the addresses in the rules of style sheets by the classes that they are for, or '*' for any other selector.
+// Lists of the addresses in the rules of style sheets by the classes that they are for, or '*' for
+// any other selector.
 function rulesOf(sheets) {
   const rules = new Map();
   const parts = unescaped(uncommented(sheets)).split(/([{}])/);
   for (let at = 0; at < parts.length; at += 2) {
-    const found = addressesIn(parts[at + 1] === '{' ? parts[at].slice(0, parts[at].lastIndexOf(';') + 1) : parts[at]);
+    const found = addressesIn(
+        parts[at + 1] === '{' ? parts[at].slice(0, parts[at].lastIndexOf(';') + 1) : parts[at]
+    );
     const selector = parts[at - 1] === '{' ? parts[at - 2].split(';').at(-1) : '';
-    for (const name of /^\s*(\.[\w-]+[\s,]*)+$/.test(selector) ? new Set(selector.match(/[\w-]+/g)) : ['*']) if (found.length) rules.set(name, rules.get(name) ?? []).get(name).push(found);
+    for (const name of / ^\s * (\.[\w - ] + [\s,
+         ]*) + $ /.test(selector) ?
+             new Set(selector.match(/[\w-]+/g)) :
+             ['*'])
+      if (found.length) rules.set(name, rules.get(name) ?? []).get(name).push(found);
   }
   return rules;
 }
 
-// Lists of the addresses of an element, by its attributes and by rules for its classes; null for one with more in it than is looked at.
+// Lists of the addresses of an element, by its attributes and by rules for its classes; null for
+// one with more in it than is looked at.
 function* addressesOf(element, rules) {
   if (element.attributes.length > MOST_ATTRIBUTES) yield null;
-  for (const { localName, value } of element.attributes) {
-    if (isLong(value)) yield null;
-    else if (localName === 'href' && element.localName !== 'a' && value.trim()[0] === '#') yield [addressOf('href', value.trim().slice(1))];
-    else if (localName === 'style' || STYLED.test(localName)) yield addressesIn(unescaped(uncommented(localName === 'style' ? value : `${localName}:${value}`)));
+  for (const {localName, value} of element.attributes) {
+    if (isLong(value))
+      yield null;
+    else if (localName === 'href' && element.localName !== 'a' && value.trim()[0] === '#')
+      yield [addressOf('href', value.trim().slice(1))];
+    else if (localName === 'style' || STYLED.test(localName))
+      yield addressesIn(
+          unescaped(uncommented(localName === 'style' ? value : `${localName}:${value}`))
+      );
   }
-  for (const name of new Set(['*', ...(element.getAttribute('class') ?? '').split(/\s+/)])) yield* rules.get(name) ?? [];
+  for (const name of new Set(['*', ...(element.getAttribute('class') ?? '').split(/\s+/)]))
+    yield* rules.get(name) ?? [];
 }
 
-// All elements as Map to { plus, times }: the elements whose counts are added to its own, and those by whose counts it is multiplied. Null
-// where there are more elements, or addresses, than are looked at.
+// All elements as Map to { plus, times }: the elements whose counts are added to its own, and those
+// by whose counts it is multiplied. Null where there are more elements, or addresses, than are
+// looked at.
 function partsOf(root) {
   const [all, ids, holding] = [[root], new Map(), new Set()];
   for (const element of all) {
@@ -63,25 +93,37 @@ function partsOf(root) {
     for (const child of element.children) all.push(child);
   }
   // Which hold a `use`: the browser fills it with elements also where it draws none of them.
-  for (const one of [...all].reverse()) if (one.localName === 'use' || [...one.children].some((child) => holding.has(child))) holding.add(one);
-  const sheets = all.filter((one) => one.localName === 'style').map((one) => one.textContent).join('\n');
+  for (const one of [...all].reverse())
+    if (one.localName === 'use' || [...one.children].some((child) => holding.has(child)))
+      holding.add(one);
+  const sheets =
+      all.filter((one) => one.localName === 'style').map((one) => one.textContent).join('\n');
   if (isLong(sheets)) return null;
   const rules = rulesOf(sheets);
-  const parts = new Map(all.map((element) => [element, { plus: [...element.children].filter((one) => holding.has(one) || !HIDDEN.has(one.localName)), times: [], inherited: [] }]));
+  const parts = new Map(all.map(
+      (element) => [element, {
+        plus: [...element.children].filter((one) => holding.has(one) || !HIDDEN.has(one.localName)),
+        times: [],
+        inherited: []
+      }]
+  ));
   let left = 50 * MOST_DRAWN;
   for (const element of all) {
     const own = parts.get(element);
-    left -= own.inherited.length + (element.getAttribute('class') ?? '').length / 2; // as many names at most
+    left -= own.inherited.length +
+        (element.getAttribute('class') ?? '').length / 2;  // as many names at most
     if (left < 0) return null;
     for (const addresses of addressesOf(element, rules)) {
       left -= 1 + (addresses?.length ?? left);
       if (left < 0) return null;
       for (const [property, id, plain] of addresses) {
         const target = ids.get(id) ?? ids.get(plain);
-        if (target && !GRADIENTS.has(target.localName)) (ONCE.test(property) ? own.plus : own.times).push(target);
+        if (target && !GRADIENTS.has(target.localName))
+          (ONCE.test(property) ? own.plus : own.times).push(target);
       }
     }
-    const passed = own.times.length ? [...new Set([...own.inherited, ...own.times])] : own.inherited;
+    const passed =
+        own.times.length ? [...new Set([...own.inherited, ...own.times])] : own.inherited;
     for (const child of element.children) parts.get(child).inherited = passed;
     if (TARGETS.has(element.localName)) own.times = passed;
   }
@@ -96,8 +138,9 @@ export function drawnOf(root) {
   const sum = (elements) => elements.reduce((total, one) => total + counts.get(one), 1);
   while (waiting.length) {
     const element = waiting.at(-1);
-    const { plus, times } = parts.get(element);
-    const missing = counts.has(element) ? [] : [...plus, ...times].filter((one) => !counts.has(one));
+    const {plus, times} = parts.get(element);
+    const missing =
+        counts.has(element) ? [] : [...plus, ...times].filter((one) => !counts.has(one));
     if (missing.some((one) => begun.has(one))) return Infinity;
     begun.add(element);
     if (!missing.length) {

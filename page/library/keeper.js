@@ -1,23 +1,28 @@
-// The library in the browser's storage: as many pictures as there is room for. Nothing goes but what its user takes away.
+// The library in the browser's storage: as many pictures as there is room for. Nothing goes but
+// what its user takes away.
 
-import { FileFault } from '../document/limits.js';
-import { phrase } from '../texts/phrase.js';
-import { cardOf, newId, readCard, readRecord } from './records.js';
-import { reasonOf } from './shelf.js';
+import {FileFault} from '../document/limits.js';
+import {phrase} from '../texts/phrase.js';
+import {cardOf, newId, readCard, readRecord} from './records.js';
+import {reasonOf} from './shelf.js';
 
 const RECORD = 'work:';
 const CARD = 'card:';
-const REST = 50; // milliseconds between a stroke and its record: it is drawn first, and of quick strokes the last one counts
+const REST = 50;  // milliseconds between a stroke and its record: it is drawn first, and of quick
+                  // strokes the last one counts
 
-/** Keeps records on a shelf: of each document the last one, one write at a time. `said` hears {kind: 'kept' | 'failed', why, record}. */
+/**
+ * Keeps records on a shelf: of each document the last one, one write at a time. `said`
+ * hears {kind: 'kept' | 'failed', why, record}.
+ */
 export class Keeper {
   constructor(shelf, said) {
     this.shelf = shelf;
     this.said = said;
     this.waiting = null;
-    this.made = []; // what was made before its turn
+    this.made = [];  // what was made before its turn
     this.writing = null;
-    this.wake = null; // ends a rest
+    this.wake = null;  // ends a rest
   }
 
   /** Whether all that was handed in is on the shelf. */
@@ -26,13 +31,15 @@ export class Keeper {
   }
 
   /**
-   * Keeps {record, facts}, made by `make` when it is its turn; of those that wait the last one counts. What `mayRest` is made and
-   * written a moment later, or with the next that may not.
+   * Keeps {record, facts}, made by `make` when it is its turn; of those that wait the last one
+   * counts. What `mayRest` is made and written a moment later, or with the next that may not.
    */
   note(make, mayRest = false) {
     this.waiting = make;
     if (!mayRest) this.wake?.();
-    this.writing ??= this.write(mayRest).finally(() => { this.writing = null; });
+    this.writing ??= this.write(mayRest).finally(() => {
+      this.writing = null;
+    });
     return this.writing;
   }
 
@@ -44,7 +51,11 @@ export class Keeper {
   }
 
   async write(mayRest) {
-    if (mayRest) await new Promise((go) => { this.wake = go; setTimeout(go, REST); });
+    if (mayRest)
+      await new Promise((go) => {
+        this.wake = go;
+        setTimeout(go, REST);
+      });
     this.wake = null;
     while (this.waiting || this.made.length) {
       if (!this.made.length) this.hurry();
@@ -56,32 +67,47 @@ export class Keeper {
   /** Keeps a record with its card; says whether it is kept. */
   async put(record, facts = {}) {
     try {
-      await this.shelf.putAll([[RECORD + record.id, record], [CARD + record.id, cardOf(record, facts)]]);
-      this.said({ kind: this.shelf.lasts ? 'kept' : 'failed', why: this.shelf.lasts ? '' : 'none', record });
+      await this.shelf.putAll(
+          [[RECORD + record.id, record], [CARD + record.id, cardOf(record, facts)]]
+      );
+      this.said(
+          {kind: this.shelf.lasts ? 'kept' : 'failed', why: this.shelf.lasts ? '' : 'none', record}
+      );
       return true;
     } catch (fault) {
-      this.said({ kind: 'failed', why: reasonOf(fault), record });
+      this.said({kind: 'failed', why: reasonOf(fault), record});
       return false;
     }
   }
 
   /** The cards of all records, the newest first. One that is missing is made of its record. */
   async cards() {
-    const { keys, values } = await this.shelf.listed(CARD);
-    const ids = keys.map(String).filter((key) => key.startsWith(RECORD)).map((key) => key.slice(RECORD.length));
-    const cards = await Promise.all(ids.map((id) => readCard(values.get(CARD + id)) ?? this.cardAnew(id)));
+    const {keys, values} = await this.shelf.listed(CARD);
+    const ids = keys.map(String).filter(
+                                    (key) => key.startsWith(RECORD)
+    ).map((key) => key.slice(RECORD.length));
+    const cards =
+        await Promise.all(ids.map((id) => readCard(values.get(CARD + id)) ?? this.cardAnew(id)));
     return cards.filter(Boolean).sort((a, b) => b.when - a.when);
   }
 
   // A card of a record that has none, or a damaged one; null where the record is damaged too.
   async cardAnew(id) {
     const value = await this.shelf.get(RECORD + id).catch(() => null);
-    try { return readRecord(value) ? readCard(cardOf(value)) : null; } catch { return null; } // what JSON cannot write
+    try {
+      return readRecord(value) ? readCard(cardOf(value)) : null;
+    } catch {
+      return null;
+    }  // what JSON cannot write
   }
 
-  /** What takes, of some cards, the first whose picture is a document, as `textOf` tells it; null where none is. Each record is read once. */
+  /**
+   * What takes, of some cards, the first whose picture is a document, as `textOf` tells it; null
+   * where none is. Each record is read once.
+   */
   takerOf(cards, textOf) {
-    const [unread, known] = [new Map(), new Map()]; // cards by their cells, and by the texts of their records
+    const [unread, known] =
+        [new Map(), new Map()];  // cards by their cells, and by the texts of their records
     const put = (map, key, card) => map.set(key, map.get(key) ?? []).get(key).push(card);
     for (const card of cards) put(unread, card.doc.picture.join(), card);
     return async (doc) => {
@@ -105,7 +131,7 @@ export class Keeper {
 
   // A picture as it is on the shelf: what `restore` puts there.
   async entry(id) {
-    return { record: await this.shelf.get(RECORD + id), card: await this.shelf.get(CARD + id) };
+    return {record: await this.shelf.get(RECORD + id), card: await this.shelf.get(CARD + id)};
   }
 
   /** Takes a picture away; resolves to what `restore` brings back. */
@@ -116,23 +142,40 @@ export class Keeper {
   }
 
   /** Puts a picture on the shelf; one that is there meanwhile is newer, and stays. */
-  async restore({ record, card }) {
+  async restore({record, card}) {
     if (!record) throw new FileFault(phrase('library.pictureLibraryDamagedCould'));
     const keys = [RECORD + record.id, CARD + record.id];
-    await this.shelf.change(keys, ([newer]) => (newer ? [] : [[keys[0], record], [keys[1], card ?? cardOf(record)]]));
+    await this.shelf.change(
+        keys, ([newer]) => (newer ? [] : [[keys[0], record], [keys[1], card ?? cardOf(record)]])
+    );
   }
 
   /** Gives a picture a name that its user chose; what is kept of it meanwhile stays. */
   async rename(id, name) {
     const keys = [RECORD + id, CARD + id];
-    await this.shelf.change(keys, ([record, card]) => (record ? [[keys[0], { ...record, name, isNamed: true }], [keys[1], { ...(card ?? cardOf(record)), name }]] : []));
+    await this.shelf.change(
+        keys,
+        ([record, card]) =>
+            (record ?
+                 [
+                   [keys[0], {...record, name, isNamed: true}],
+                   [keys[1], {...(card ?? cardOf(record)), name}]
+                 ] :
+                 [])
+    );
   }
 
   /** A copy of a picture, with its strokes, under another name; resolves to its id. */
   async duplicate(id, name) {
-    const { record, card } = await this.entry(id);
-    const own = { id: newId(), name, when: Date.now(), isSaved: false };
-    await this.restore({ record: record && { ...record, ...own }, card: card && { ...card, ...own } });
+    const {record, card} = await this.entry(id);
+    const own = {id: newId(), name, when: Date.now(), isSaved: false};
+    await this.restore({
+      record: record && {...record, ...own},
+      card: card &&
+          {
+            ...card, ...own
+          }
+    });
     return own.id;
   }
 }

@@ -1,23 +1,27 @@
-// What a solver has of a puzzle: marks in cells, the blocks that they cross off, and whether all clues are met.
+// What a solver has of a puzzle: marks in cells, the blocks that they cross off, and whether all
+// clues are met.
 
-const NONE = '?'; // a cell without a mark
+const NONE = '?';  // a cell without a mark
 
 // The runs of one colour in a line; background and cells without a mark part them.
 function runsOf(cells) {
   const runs = [];
-  for (let at = 0; at < cells.length; ) {
+  for (let at = 0; at < cells.length;) {
     let end = at + 1;
     while (end < cells.length && cells[end] === cells[at]) end++;
-    if (cells[at] !== '.' && cells[at] !== NONE) runs.push({ length: end - at, letter: cells[at] });
+    if (cells[at] !== '.' && cells[at] !== NONE) runs.push({length: end - at, letter: cells[at]});
     at = end;
   }
   return runs;
 }
 
-/** Whether the colours of a line are those of its clue, cells without a mark taken as background. */
+/**
+ * Whether the colours of a line are those of its clue, cells without a mark taken as background.
+ */
 export function isMet(blocks, cells) {
   const runs = runsOf(cells);
-  return runs.length === blocks.length && runs.every((run, at) => run.length === blocks[at].length && run.letter === blocks[at].letter);
+  return runs.length === blocks.length &&
+      runs.every((run, at) => run.length === blocks[at].length && run.letter === blocks[at].letter);
 }
 
 // How many blocks are whole from the front, where no cell before or inside them is without a mark.
@@ -26,7 +30,7 @@ function wholeFromFront(blocks, cells) {
   let whole = 0;
   while (whole < blocks.length) {
     while (cells[at] === '.') at++;
-    const { length, letter } = blocks[whole];
+    const {length, letter} = blocks[whole];
     let end = at;
     while (end < cells.length && cells[end] === letter) end++;
     if (end - at !== length) return whole;
@@ -37,8 +41,9 @@ function wholeFromFront(blocks, cells) {
 }
 
 /**
- * Of each block of a clue, whether the marks in its line cross it off: all where the clue is met, else those from both ends. The 0 of a
- * clue without a block is crossed off once all cells are marked.
+ * Of each block of a clue, whether the marks in its line cross it off: all where the clue is met,
+ * else those from both ends. The 0 of a clue without a block is crossed off once all cells are
+ * marked.
  */
 export function crossedOff(blocks, cells) {
   if (!blocks.length) return cells.every((cell) => cell === '.') ? [true] : [];
@@ -49,6 +54,8 @@ export function crossedOff(blocks, cells) {
 }
 
 /** The marks that a puzzle begins with: its givens, and no other. */
-export function marksOf({ picture, columns, givens }) {
-  return picture.map((row, at) => [...row].map((letter, col) => (givens.has(at * columns + col) ? letter : NONE)));
+export function marksOf({picture, columns, givens}) {
+  return picture.map(
+      (row, at) => [...row].map((letter, col) => (givens.has(at * columns + col) ? letter : NONE))
+  );
 }

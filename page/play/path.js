@@ -1,70 +1,93 @@
-// The solving path of a puzzle, as the engine tells it: its looks at lines, and where these end before the picture does, a cell that is
-// guessed. The guess is the first split of a certificate: any other colour there leads nowhere.
+// The solving path of a puzzle, as the engine tells it: its looks at lines, and where these end
+// before the picture does, a cell that is guessed. The guess is the first split of a certificate:
+// any other colour there leads nowhere.
 
-import { phrase } from '../texts/phrase.js';
-import { searches, secondsChosen } from '../view/verdict.js';
-import { marksOf } from './crossing.js';
+import {phrase} from '../texts/phrase.js';
+import {searches, secondsChosen} from '../view/verdict.js';
+import {marksOf} from './crossing.js';
 
-/** The path: steps with what is known of each cell after so many of them. A step is `{ line, round, cells: [{ index, letter }] }`; of a guess the line is null. */
+/**
+ * The path: steps with what is known of each cell after so many of them. A step is `{ line, round,
+ * cells: [{ index, letter }] }`; of a guess the line is null.
+ */
 export class Walk {
   constructor(state, steps = []) {
     this.state = state;
     this.steps = steps;
     this.isWhole = false;
-    this.falls = new Map(steps.flatMap(({ round, cells }) => cells.map(({ index }) => [index, round])));
+    this.falls = new Map(steps.flatMap(({round, cells}) => cells.map(({index}) => [index, round])));
   }
 
   /** The letters of the cells after so many steps, '?' where several are left. */
   letters(count) {
     const letters = marksOf(this.state).flat();
-    for (const { cells } of this.steps.slice(0, count)) for (const { index, letter } of cells) letters[index] = letter;
+    for (const {cells} of this.steps.slice(0, count))
+      for (const {index, letter} of cells) letters[index] = letter;
     return letters;
   }
 
-  /** The number of the hardest step, counted from 1: the first guess; else of those that settle cells the one with fewest of them for each block of its clue. */
+  /**
+   * The number of the hardest step, counted from 1: the first guess; else of those that settle
+   * cells the one with fewest of them for each block of its clue.
+   */
   get hardest() {
-    const guess = this.steps.findIndex(({ line }) => line === null);
+    const guess = this.steps.findIndex(({line}) => line === null);
     if (guess >= 0) return guess + 1;
-    const { rows, columns } = this.state.clues;
+    const {rows, columns} = this.state.clues;
     const clues = [...rows, ...columns];
-    const ease = ({ line, cells }) => (cells.length ? cells.length / (1 + clues[line].length) : Infinity);
+    const ease = ({line, cells}) =>
+        (cells.length ? cells.length / (1 + clues[line].length) : Infinity);
     const eases = this.steps.map(ease);
     return eases.indexOf(Math.min(...eases)) + 1;
   }
 
-  /** The round of line logic in which each cell falls, from 1; 0 where it was settled at the start, -1 where it needs a guess. */
+  /**
+   * The round of line logic in which each cell falls, from 1; 0 where it was settled at the start,
+   * -1 where it needs a guess.
+   */
   get rounds() {
-    return this.state.map.join('').split('').map((letter, index) => (letter === '?' ? -1 : this.falls.get(index) ?? 0));
+    return this.state.map.join('').split(''
+    ).map((letter, index) => (letter === '?' ? -1 : this.falls.get(index) ?? 0));
   }
 }
 
 // Steps of the path of a copy's picture with its givens, without the cells that are known already.
 async function looksOf(copy, known) {
-  const [{ looks, open }] = await copy.say('path');
-  const steps = looks.map(({ line, round, falls }) => ({ line, round, cells: falls.filter(({ index }) => !known.has(index)) }));
-  return { open, steps: known.size ? steps.filter(({ cells }) => cells.length) : steps };
+  const [{looks, open}] = await copy.say('path');
+  const steps = looks.map(
+      ({line, round, falls}) => ({line, round, cells: falls.filter(({index}) => !known.has(index))})
+  );
+  return {open, steps: known.size ? steps.filter(({cells}) => cells.length) : steps};
 }
 
 // A cell that is guessed in a copy's picture, which gives it from here on.
-async function guessed(copy, { picture, columns }) {
-  const [{ text }] = await copy.say('certify');
+async function guessed(copy, {picture, columns}) {
+  const [{text}] = await copy.say('certify');
   const [row, column] = /^split (\d+) (\d+)$/m.exec(text).slice(1).map(Number);
   copy.changes();
   await copy.say(`pin ${row} ${column}`);
-  return { line: null, round: -1, cells: [{ index: (row - 1) * columns + column - 1, letter: picture[row - 1][column - 1] }] };
+  return {
+    line: null,
+    round: -1,
+    cells: [{index: (row - 1) * columns + column - 1, letter: picture[row - 1][column - 1]}]
+  };
 }
 
-/** The path through a state's puzzle; `told` hears it as far as it is known. Null where nothing is known of it. */
+/**
+ * The path through a state's puzzle; `told` hears it as far as it is known. Null where nothing is
+ * known of it.
+ */
 export async function pathOf(state, told = null) {
   return searches.job(phrase('play.walkThrough'), secondsChosen(), async (copy) => {
     const known = new Set();
     let walk = new Walk(state);
     const add = (steps) => {
-      for (const { cells } of steps) for (const { index } of cells) known.add(index);
+      for (const {cells} of steps)
+        for (const {index} of cells) known.add(index);
       walk = copy.found = new Walk(state, [...walk.steps, ...steps]);
     };
     for (;;) {
-      const { open, steps } = await looksOf(copy, known);
+      const {open, steps} = await looksOf(copy, known);
       add(steps);
       walk.isWhole = open === 0 || state.verdict.word !== 'unique';
       told?.(walk);

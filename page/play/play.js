@@ -1,43 +1,86 @@
-// Play: the empty puzzle as a solver gets it. Marks are the player's own and change nothing of the picture.
+// Play: the empty puzzle as a solver gets it. Marks are the player's own and change nothing of the
+// picture.
 
-import { $, buttonOf, make, spanOf, withoutGestures } from '../base/elements.js';
-import { on, tell } from '../base/events.js';
-import { markRadio } from '../base/radios.js';
-import { clamp } from '../base/words.js';
-import { sameDoc } from '../document/document.js';
-import { LETTERS, MOST_CELLS } from '../document/limits.js';
-import { lineCells } from '../document/shapes.js';
-import { bench } from '../engine/bench.js';
-import { phrase } from '../texts/phrase.js';
-import { addAction } from '../view/actions.js';
-import { openDialog } from '../view/dialogs.js';
-import { dress, inkName } from '../view/dress.js';
-import { selection } from '../view/select.js';
-import { asSeen } from '../view/tools.js';
-import { searches } from '../view/verdict.js';
-import { isMet, marksOf } from './crossing.js';
-import { nextHint, wrongMarks } from './hints.js';
-import { keepMarks, keptMarks } from './kept.js';
-import { drawPlay, drawStroke, fitPlay, movePlay, refitPlay, zoomPlay } from './playdraw.js';
-import { endWalk, isWalking, startWalk, walkBar, walkKey } from './walking.js';
+import {$, buttonOf, make, spanOf, withoutGestures} from '../base/elements.js';
+import {on, tell} from '../base/events.js';
+import {markRadio} from '../base/radios.js';
+import {clamp} from '../base/words.js';
+import {sameDoc} from '../document/document.js';
+import {LETTERS, MOST_CELLS} from '../document/limits.js';
+import {lineCells} from '../document/shapes.js';
+import {bench} from '../engine/bench.js';
+import {phrase} from '../texts/phrase.js';
+import {addAction} from '../view/actions.js';
+import {openDialog} from '../view/dialogs.js';
+import {dress, inkName} from '../view/dress.js';
+import {selection} from '../view/select.js';
+import {asSeen} from '../view/tools.js';
+import {searches} from '../view/verdict.js';
+import {isMet, marksOf} from './crossing.js';
+import {nextHint, wrongMarks} from './hints.js';
+import {keepMarks, keptMarks} from './kept.js';
+import {drawPlay, drawStroke, fitPlay, movePlay, refitPlay, zoomPlay} from './playdraw.js';
+import {endWalk, isWalking, startWalk, walkBar, walkKey} from './walking.js';
 
-export const play = { state: null, marks: [], letter: 'a', past: [], future: [], wrong: new Set(), at: { row: 0, col: 0 }, side: 24, room: [], isZoomed: false, drag: null, isSolved: false, shown: null, heat: null, hint: null };
+export const play = {
+  state: null,
+  marks: [],
+  letter: 'a',
+  past: [],
+  future: [],
+  wrong: new Set(),
+  at: {row: 0, col: 0},
+  side: 24,
+  room: [],
+  isZoomed: false,
+  drag: null,
+  isSolved: false,
+  shown: null,
+  heat: null,
+  hint: null
+};
 
-// Whether the marks of the last time are those of this puzzle: what was marked before the room was left stands there again.
-const goesOn = ({ picture, givens, colours }) => play.past.length > 0 && play.state.picture === picture && play.state.givens === givens && play.state.colours === colours;
+// Whether the marks of the last time are those of this puzzle: what was marked before the room was
+// left stands there again.
+const goesOn = ({picture, givens, colours}) => play.past.length > 0 &&
+    play.state.picture === picture && play.state.givens === givens &&
+    play.state.colours === colours;
 
-/** Shows the puzzle to be solved. Where it stands alone, there is no way to the picture but the one that the player paints. */
-export async function openPlay({ isAlone = false } = {}) {
+/**
+ * Shows the puzzle to be solved. Where it stands alone, there is no way to the picture but the one
+ * that the player paints.
+ */
+export async function openPlay({isAlone = false} = {}) {
   if ((selection.rows || bench.queue.length) && !(await asSeen())) return;
   $('play-room')?.remove();
-  const { state } = bench;
+  const {state} = bench;
   const isGoing = goesOn(state);
   const kept = isGoing ? play.marks : keptMarks(state);
-  if (!isGoing) Object.assign(play, { marks: kept ?? marksOf(state), letter: state.colours.length > 1 ? 'a' : '.', past: [], future: [], at: { row: 0, col: 0 }, isSolved: false });
-  Object.assign(play, { state, wrong: new Set(), drag: null, shown: null, heat: null, hint: null });
+  if (!isGoing)
+    Object.assign(play, {
+      marks: kept ?? marksOf(state),
+      letter: state.colours.length > 1 ? 'a' : '.',
+      past: [],
+      future: [],
+      at: {row: 0, col: 0},
+      isSolved: false
+    });
+  Object.assign(play, {state, wrong: new Set(), drag: null, shown: null, heat: null, hint: null});
   searches.stop();
-  const dialog = make('dialog', { id: 'play-room', 'aria-label': phrase('play.play') });
-  dialog.append(playBar(), walkBar(), make('p', { id: 'play-said', role: 'status' }), playBoard(), make('div', { id: 'play-palette', role: 'radiogroup', 'aria-label': phrase('view.colourLabel') }), make('p', { id: 'play-credit', class: 'faint', hidden: !(state.about.title || state.about.author) }));
+  const dialog = make('dialog', {id: 'play-room', 'aria-label': phrase('play.play')});
+  dialog.append(
+      playBar(),
+      walkBar(),
+      make('p', {id: 'play-said', role: 'status'}),
+      playBoard(),
+      make(
+          'div', {id: 'play-palette', role: 'radiogroup', 'aria-label': phrase('view.colourLabel')}
+      ),
+      make(
+          'p',
+          {id: 'play-credit', class: 'faint', hidden: !(state.about.title || state.about.author)}
+      )
+  );
   dialog.addEventListener('close', () => {
     endWalk();
     dialog.remove();
@@ -50,56 +93,112 @@ export async function openPlay({ isAlone = false } = {}) {
   fitPlay();
   afterPlay();
   new ResizeObserver(() => refitPlay()).observe(dialog);
-  $('play-field').focus({ preventScroll: true });
+  $('play-field').focus({preventScroll: true});
   $('play-board').scrollTo(0, 0);
-  const { word } = state.verdict;
-  const told = word === 'unique' ? phrase('play.oneSolutionGoodLuck') : word === 'ambiguous' ? phrase('play.puzzleMoreOneSolution') : phrase('play.notKnownWhetherPuzzle');
-  playSays(`${kept ? phrase('play.yourMarksYouLeft') : ''}${told}${state.givens.size ? phrase('play.cellsDiamondGiven') : ''}`);
+  const {word} = state.verdict;
+  const told = word === 'unique' ? phrase('play.oneSolutionGoodLuck') :
+      word === 'ambiguous'       ? phrase('play.puzzleMoreOneSolution') :
+                                   phrase('play.notKnownWhetherPuzzle');
+  playSays(`${kept ? phrase('play.yourMarksYouLeft') : ''}${told}${
+      state.givens.size ? phrase('play.cellsDiamondGiven') : ''}`);
 }
 
 // Where the player stands alone nothing closes it: neither Escape nor a phone's way back.
 function keepOpen(dialog) {
-  dialog.addEventListener('keydown', (event) => { if (event.key === 'Escape') event.preventDefault(); });
-  dialog.addEventListener('close', () => { if (document.body.classList.contains('player')) openPlay({ isAlone: true }); });
+  dialog.addEventListener('keydown', (event) => {
+    if (event.key === 'Escape') event.preventDefault();
+  });
+  dialog.addEventListener('close', () => {
+    if (document.body.classList.contains('player')) openPlay({isAlone: true});
+  });
 }
 
-export const playSays = (text) => { $('play-said').textContent = text; };
+export const playSays = (text) => {
+  $('play-said').textContent = text;
+};
 
 function playBar() {
-  return make('div', { class: 'group', id: 'play-bar' },
-    make('h2', {}, phrase('play.play')),
-    buttonOf('play-undo', phrase('view.undo'), () => playTurn('past', 'future'), { 'data-short': '↶', 'aria-label': phrase('view.undo') }), buttonOf('play-redo', phrase('view.redo'), () => playTurn('future', 'past'), { 'data-short': '↷', 'aria-label': phrase('view.redo') }),
-    buttonOf('play-check', phrase('view.check'), checkPlay, { title: phrase('play.marksCellsNotYour') }),
-    buttonOf('play-hint', phrase('play.hint'), hintPlay, { title: phrase('play.lineTellsMoreAgain') }),
-    buttonOf('play-clear', phrase('play.startOver'), clearPlay), buttonOf('play-walk', phrase('play.walkThrough'), startWalk),
-    buttonOf('play-smaller', '−', () => zoomPlay(-1), { 'aria-label': phrase('view.smaller') }), buttonOf('play-larger', '+', () => zoomPlay(1), { 'aria-label': phrase('view.larger') }),
-    buttonOf('play-help', '?', helpPlay, { 'aria-label': phrase('view.help'), title: phrase('view.help') }),
-    buttonOf('play-close', phrase('play.backPicture'), () => $('play-room').close(), { 'data-short': '←', 'aria-label': phrase('play.backPicture') }));
+  return make(
+      'div',
+      {class: 'group', id: 'play-bar'},
+      make('h2', {}, phrase('play.play')),
+      buttonOf('play-undo', phrase('view.undo'), () => playTurn('past', 'future'), {
+        'data-short': '↶',
+        'aria-label': phrase('view.undo')
+      }),
+      buttonOf('play-redo', phrase('view.redo'), () => playTurn('future', 'past'), {
+        'data-short': '↷',
+        'aria-label': phrase('view.redo')
+      }),
+      buttonOf(
+          'play-check', phrase('view.check'), checkPlay, {title: phrase('play.marksCellsNotYour')}
+      ),
+      buttonOf(
+          'play-hint', phrase('play.hint'), hintPlay, {title: phrase('play.lineTellsMoreAgain')}
+      ),
+      buttonOf('play-clear', phrase('play.startOver'), clearPlay),
+      buttonOf('play-walk', phrase('play.walkThrough'), startWalk),
+      buttonOf('play-smaller', '−', () => zoomPlay(-1), {'aria-label': phrase('view.smaller')}),
+      buttonOf('play-larger', '+', () => zoomPlay(1), {'aria-label': phrase('view.larger')}),
+      buttonOf('play-help', '?', helpPlay, {
+        'aria-label': phrase('view.help'),
+        title: phrase('view.help')
+      }),
+      buttonOf('play-close', phrase('play.backPicture'), () => $('play-room').close(), {
+        'data-short': '←',
+        'aria-label': phrase('play.backPicture')
+      })
+  );
 }
 
 function helpPlay() {
-  const list = make('ul', {}, ...phrase('play.howTo').split('\n').map((line) => make('li', {}, line)));
-  openDialog({ title: phrase('view.help'), content: make('div', { class: 'help' }, list), buttons: [{ name: phrase('view.close'), value: null, main: true }] });
+  const list =
+      make('ul', {}, ...phrase('play.howTo').split('\n').map((line) => make('li', {}, line)));
+  openDialog({
+    title: phrase('view.help'),
+    content: make('div', {class: 'help'}, list),
+    buttons: [{name: phrase('view.close'), value: null, main: true}]
+  });
 }
 
 function playBoard() {
-  const field = make('canvas', { id: 'play-field', tabindex: '0', role: 'application', 'aria-roledescription': phrase('play.puzzle'), 'aria-label': phrase('play.puzzle'), 'aria-describedby': 'play-cell' });
+  const field = make('canvas', {
+    id: 'play-field',
+    tabindex: '0',
+    role: 'application',
+    'aria-roledescription': phrase('play.puzzle'),
+    'aria-label': phrase('play.puzzle'),
+    'aria-describedby': 'play-cell'
+  });
   withoutGestures(field);
   field.addEventListener('contextmenu', (event) => event.preventDefault());
   for (const [type, hear] of Object.entries(playPointer)) field.addEventListener(type, hear);
-  return make('div', { id: 'play-board' },
-    make('canvas', { id: 'play-corner', 'aria-hidden': 'true' }), make('canvas', { id: 'play-top', 'aria-hidden': 'true' }),
-    make('canvas', { id: 'play-left', 'aria-hidden': 'true' }), field, make('p', { id: 'play-cell', class: 'unseen', 'aria-live': 'polite' }));
+  return make(
+      'div',
+      {id: 'play-board'},
+      make('canvas', {id: 'play-corner', 'aria-hidden': 'true'}),
+      make('canvas', {id: 'play-top', 'aria-hidden': 'true'}),
+      make('canvas', {id: 'play-left', 'aria-hidden': 'true'}),
+      field,
+      make('p', {id: 'play-cell', class: 'unseen', 'aria-live': 'polite'})
+  );
 }
 
 // Colours, the mark of a background cell, and the wipe.
 function playPalette() {
-  const { colours } = play.state;
+  const {colours} = play.state;
   const choices = [...LETTERS.slice(1, colours.length), '.', '?'];
   $('play-palette').replaceChildren(...choices.map((letter) => {
-    const name = letter === '.' ? phrase('view.background') : letter === '?' ? phrase('play.wipe') : inkName(play.state, letter);
-    const sign = { '.': '×', '?': '⌫' }[letter] ?? letter;
-    const button = buttonOf(null, sign, () => choosePlay(letter), { role: 'radio', 'data-letter': letter, 'aria-label': name, title: name });
+    const name = letter === '.' ? phrase('view.background') :
+        letter === '?'          ? phrase('play.wipe') :
+                                  inkName(play.state, letter);
+    const sign = {'.': '×', '?': '⌫'}[letter] ?? letter;
+    const button = buttonOf(
+        null,
+        sign,
+        () => choosePlay(letter),
+        {role: 'radio', 'data-letter': letter, 'aria-label': name, title: name}
+    );
     if (letter !== '?') dress(button, letter, play.state);
     return button;
   }));
@@ -109,7 +208,7 @@ function playPalette() {
 function choosePlay(letter) {
   if (letter !== '?' && LETTERS.indexOf(letter) >= play.state.colours.length) return;
   play.letter = letter;
-  markRadio($('play-palette'), ({ dataset }) => dataset.letter === letter);
+  markRadio($('play-palette'), ({dataset}) => dataset.letter === letter);
 }
 
 // ---- marks
@@ -124,7 +223,7 @@ function markPlay(cells, mark) {
   for (const index of cells) {
     const [row, col] = playPlace(index);
     if (play.state.givens.has(index) || play.marks[row][col] === mark) continue;
-    stroke.push({ index, before: play.marks[row][col], after: mark });
+    stroke.push({index, before: play.marks[row][col], after: mark});
     play.marks[row][col] = mark;
     play.wrong.delete(index);
   }
@@ -141,7 +240,7 @@ function keepPlay(stroke) {
 function playTurn(from, to) {
   const stroke = isWalking() ? null : play[from].pop();
   if (!stroke) return;
-  for (const { index, before, after } of stroke) {
+  for (const {index, before, after} of stroke) {
     const [row, col] = playPlace(index);
     play.marks[row][col] = from === 'past' ? before : after;
     play.wrong.delete(index);
@@ -153,26 +252,35 @@ function playTurn(from, to) {
 export const playColumn = (col) => play.marks.map((row) => row[col]);
 
 export function afterPlay() {
-  const { clues } = play.state;
-  const solved = clues.rows.every((blocks, row) => isMet(blocks, play.marks[row])) && clues.columns.every((blocks, col) => isMet(blocks, playColumn(col)));
+  const {clues} = play.state;
+  const solved = clues.rows.every((blocks, row) => isMet(blocks, play.marks[row])) &&
+      clues.columns.every((blocks, col) => isMet(blocks, playColumn(col)));
   if (solved && !play.isSolved) {
-    const other = play.marks.some((row, at) => row.some((mark, col) => (mark === '?' ? '.' : mark) !== play.state.picture[at][col]));
+    const other = play.marks.some(
+        (row, at) =>
+            row.some((mark, col) => (mark === '?' ? '.' : mark) !== play.state.picture[at][col])
+    );
     playSays(other ? phrase('play.solvedButPictureOther') : phrase('play.solved'));
     tell('solved', null);
-  } else if (!solved) playSays('');
+  } else if (!solved)
+    playSays('');
   play.isSolved = solved;
   keepMarks(play.state, play.marks, solved);
-  const { title, author } = play.state.about;
-  $('play-credit').textContent = [solved && title, author && phrase('export.by', { author })].filter(Boolean).join(', '); // a title may tell what it is
+  const {title, author} = play.state.about;
+  $('play-credit').textContent =
+      [solved && title, author && phrase('export.by', {author})].filter(Boolean).join(', '
+      );  // a title may tell what it is
   $('play-undo').disabled = !play.past.length;
   $('play-redo').disabled = !play.future.length;
   drawStroke();
 }
 
-// A cell that another solution has is not wrong: only where the picture is known to be the one solution is it told so.
+// A cell that another solution has is not wrong: only where the picture is known to be the one
+// solution is it told so.
 export function checkText(count) {
-  if (play.state.verdict.word === 'unique') return count ? phrase('play.cellsWrong', { cells: count }) : phrase('play.nothingWrongSoFar');
-  return count ? phrase('play.cellsDiffer', { cells: count }) : phrase('play.nothingDiffersFromYour');
+  if (play.state.verdict.word === 'unique')
+    return count ? phrase('play.cellsWrong', {cells: count}) : phrase('play.nothingWrongSoFar');
+  return count ? phrase('play.cellsDiffer', {cells: count}) : phrase('play.nothingDiffersFromYour');
 }
 
 function checkPlay() {
@@ -191,7 +299,9 @@ async function hintPlay() {
 
 function clearPlay() {
   play.wrong = new Set();
-  const stroke = markPlay(play.marks.flatMap((row, at) => row.map((_, col) => at * play.state.columns + col)), '?');
+  const stroke = markPlay(
+      play.marks.flatMap((row, at) => row.map((_, col) => at * play.state.columns + col)), '?'
+  );
   keepPlay(stroke);
   if (stroke.length) playSays(phrase('play.startedOver'));
 }
@@ -200,45 +310,52 @@ function clearPlay() {
 
 function playCellAt(event) {
   const box = $('play-field').getBoundingClientRect();
-  const [row, col] = [Math.floor((event.clientY - box.top) / play.side), Math.floor((event.clientX - box.left) / play.side)];
-  return row >= 0 && col >= 0 && row < play.state.rows && col < play.state.columns ? { row, col } : null;
+  const [row, col] = [
+    Math.floor((event.clientY - box.top) / play.side),
+    Math.floor((event.clientX - box.left) / play.side)
+  ];
+  return row >= 0 && col >= 0 && row < play.state.rows && col < play.state.columns ? {row, col} :
+                                                                                     null;
 }
 
 // Where the first cell has the mark already, the stroke wipes.
 function beginPlay(at, letter) {
   const mark = play.marks[at.row][at.col] === letter ? '?' : letter;
-  play.drag = { mark, from: at, to: at, way: null, stroke: [] };
+  play.drag = {mark, from: at, to: at, way: null, stroke: []};
   alongPlay(at);
 }
 
-// A stroke stays in the row or the column of its first cell: the one along which it first goes further than across.
-function inLine(drag, { row, col }) {
-  const { from, to } = drag;
+// A stroke stays in the row or the column of its first cell: the one along which it first goes
+// further than across.
+function inLine(drag, {row, col}) {
+  const {from, to} = drag;
   const [down, across] = [Math.abs(row - from.row), Math.abs(col - from.col)];
   if (!drag.way && down !== across) drag.way = down < across ? 'row' : 'col';
-  return drag.way ? { row, col, [drag.way]: from[drag.way] } : to;
+  return drag.way ? {row, col, [drag.way]: from[drag.way]} : to;
 }
 
 function alongPlay(cell) {
-  const { drag } = play;
+  const {drag} = play;
   const at = inLine(drag, cell);
-  drag.stroke.push(...markPlay(lineCells(drag.to, at).map(({ row, col }) => row * play.state.columns + col), drag.mark));
+  drag.stroke.push(...markPlay(
+      lineCells(drag.to, at).map(({row, col}) => row * play.state.columns + col), drag.mark
+  ));
   drag.to = at;
   movePlay(at);
 }
 
 function endPlay() {
-  const { drag } = play;
+  const {drag} = play;
   play.drag = null;
   if (drag) keepPlay(drag.stroke);
 }
 
 const playFingers = new Map();
-let pinched = 0; // pixels between two fingers at the last step of the zoom
+let pinched = 0;  // pixels between two fingers at the last step of the zoom
 
 // Two fingers that go apart, or together, zoom a step each time that their distance is another one.
 function pinchPlay() {
-  const { x, y, far } = spanOf(playFingers);
+  const {x, y, far} = spanOf(playFingers);
   if (pinched === 0 || far === 0) pinched = far;
   const way = far > pinched * 1.2 ? 1 : far < pinched / 1.2 ? -1 : 0;
   if (way === 0) return;
@@ -256,10 +373,10 @@ const playPointer = {
   pointerdown(event) {
     event.preventDefault();
     $('play-field').setPointerCapture(event.pointerId);
-    $('play-field').focus({ preventScroll: true });
+    $('play-field').focus({preventScroll: true});
     playFingers.set(event.pointerId, event);
     if (playFingers.size > 1) {
-      const { drag } = play;
+      const {drag} = play;
       endPlay();
       if (drag?.stroke.length) playTurn('past', 'future');
       return;
@@ -271,7 +388,11 @@ const playPointer = {
     const before = playFingers.get(event.pointerId);
     if (before && playFingers.size > 1) {
       pinchPlay();
-      $('play-board').scrollBy((before.clientX - event.clientX) / playFingers.size, (before.clientY - event.clientY) / playFingers.size);
+      $('play-board')
+          .scrollBy(
+              (before.clientX - event.clientX) / playFingers.size,
+              (before.clientY - event.clientY) / playFingers.size
+          );
       playFingers.set(event.pointerId, event);
       return;
     }
@@ -282,28 +403,62 @@ const playPointer = {
   pointercancel: endFinger,
 };
 
-const PLAY_STEPS = { ArrowUp: [-1, 0], ArrowDown: [1, 0], ArrowLeft: [0, -1], ArrowRight: [0, 1], PageUp: [-10, 0], PageDown: [10, 0], Home: [0, -MOST_CELLS], End: [0, MOST_CELLS] };
+const PLAY_STEPS = {
+  ArrowUp: [-1, 0],
+  ArrowDown: [1, 0],
+  ArrowLeft: [0, -1],
+  ArrowRight: [0, 1],
+  PageUp: [-10, 0],
+  PageDown: [10, 0],
+  Home: [0, -MOST_CELLS],
+  End: [0, MOST_CELLS]
+};
 function playKey(event) {
-  if (!event.ctrlKey && !event.metaKey && !event.altKey && walkKey(event)) return event.preventDefault();
+  if (!event.ctrlKey && !event.metaKey && !event.altKey && walkKey(event))
+    return event.preventDefault();
   const step = event.target === $('play-field') ? PLAY_STEPS[event.key] : null;
-  const way = event.ctrlKey || event.metaKey ? { z: event.shiftKey ? 'redo' : 'undo', y: 'redo' }[event.key.toLowerCase()] : null;
+  const way = event.ctrlKey || event.metaKey ?
+      {z: event.shiftKey ? 'redo' : 'undo', y: 'redo'}[event.key.toLowerCase()] :
+      null;
   if (!way && (event.ctrlKey || event.metaKey || event.altKey)) return undefined;
-  if (way) playTurn(...(way === 'undo' ? ['past', 'future'] : ['future', 'past']));
-  else if (step) movePlay({ row: clamp(play.at.row + step[0], 0, play.state.rows - 1), col: clamp(play.at.col + step[1], 0, play.state.columns - 1) }, true);
-  else if (event.target === $('play-field') && (event.key === ' ' || event.key === 'Enter')) { beginPlay(play.at, play.letter); endPlay(); }
-  else if (event.key === 'Backspace' || event.key === 'Delete') keepPlay(markPlay([play.at.row * play.state.columns + play.at.col], '?'));
-  else if (event.key === 'x') { beginPlay(play.at, '.'); endPlay(); }
-  else if (event.key.length === 1 && LETTERS.includes(event.key)) choosePlay(event.key);
-  else if (/^[0-9]$/.test(event.key)) choosePlay(LETTERS[Number(event.key)]);
-  else return undefined;
+  if (way)
+    playTurn(...(way === 'undo' ? ['past', 'future'] : ['future', 'past']));
+  else if (step)
+    movePlay(
+        {
+          row: clamp(play.at.row + step[0], 0, play.state.rows - 1),
+          col: clamp(play.at.col + step[1], 0, play.state.columns - 1)
+        },
+        true
+    );
+  else if (event.target === $('play-field') && (event.key === ' ' || event.key === 'Enter')) {
+    beginPlay(play.at, play.letter);
+    endPlay();
+  } else if (event.key === 'Backspace' || event.key === 'Delete')
+    keepPlay(markPlay([play.at.row * play.state.columns + play.at.col], '?'));
+  else if (event.key === 'x') {
+    beginPlay(play.at, '.');
+    endPlay();
+  } else if (event.key.length === 1 && LETTERS.includes(event.key))
+    choosePlay(event.key);
+  else if (/^[0-9]$/.test(event.key))
+    choosePlay(LETTERS[Number(event.key)]);
+  else
+    return undefined;
   return event.preventDefault();
 }
 
 /** Adds Play and the solving path to the menu Check. */
 export function startPlay() {
-  addAction({ id: 'play', name: phrase('play.play'), place: 'check', run: openPlay });
-  addAction({ id: 'walk', name: phrase('play.walkThrough'), place: 'check', run: () => openPlay().then(startWalk) });
-  on('shown', (state) => { // hints and the path are of the picture that is open: the player of another one is closed
+  addAction({id: 'play', name: phrase('play.play'), place: 'check', run: openPlay});
+  addAction({
+    id: 'walk',
+    name: phrase('play.walkThrough'),
+    place: 'check',
+    run: () => openPlay().then(startWalk)
+  });
+  on('shown', (state) => {  // hints and the path are of the picture that is open: the player of
+                            // another one is closed
     if (!$('play-room') || sameDoc(play.state, state)) return;
     endWalk();
     $('play-room').close();

@@ -1,28 +1,40 @@
-// What a hint or a step of the solving path shows over the field: its line, the cells it settles, the cells it uses, and the heat map.
+// What a hint or a step of the solving path shows over the field: its line, the cells it settles,
+// the cells it uses, and the heat map.
 
-import { drawTwice } from '../draw/marks.js';
-import { play } from './play.js';
+import {drawTwice} from '../draw/marks.js';
+import {play} from './play.js';
 
 const NEW = '#d9730d';
 const USED = '#14609c';
 const GUESS = 'rgb(120 20 80 / 60%)';
 
 /** The tint of a round: from light to dark; what needs a guess (-1) apart. */
-export const heatOf = (round, most) => (round < 0 ? GUESS : `hsl(${210 - (200 * Math.max(0, round - 1)) / Math.max(1, most - 1)} 85% 45% / 45%)`);
+export const heatOf = (round, most) =>
+    (round < 0 ?
+         GUESS :
+         `hsl(${210 - (200 * Math.max(0, round - 1)) / Math.max(1, most - 1)} 85% 45% / 45%)`);
 
 function ring(pen, index, ink, breadth, dash) {
-  const { side, state } = play;
+  const {side, state} = play;
   const [x, y] = [(index % state.columns) * side, Math.floor(index / state.columns) * side];
-  drawTwice(pen, 1, [breadth + 2, breadth], { ink, dash }, () => pen.strokeRect(x + 2, y + 2, side - 3, side - 3));
+  drawTwice(
+      pen,
+      1,
+      [breadth + 2, breadth],
+      {ink, dash},
+      () => pen.strokeRect(x + 2, y + 2, side - 3, side - 3)
+  );
 }
 
 function drawHeat(pen, rounds) {
-  const { side, state } = play;
+  const {side, state} = play;
   const most = Math.max(1, ...rounds);
   rounds.forEach((round, index) => {
     if (round === 0) return;
     pen.fillStyle = heatOf(round, most);
-    pen.fillRect((index % state.columns) * side, Math.floor(index / state.columns) * side, side, side);
+    pen.fillRect(
+        (index % state.columns) * side, Math.floor(index / state.columns) * side, side, side
+    );
     if (side < 16) return;
     pen.fillStyle = '#fff';
     pen.strokeStyle = '#000';
@@ -30,16 +42,22 @@ function drawHeat(pen, rounds) {
     pen.font = `600 ${Math.floor(side * 0.5)}px system-ui, sans-serif`;
     pen.textAlign = 'center';
     pen.textBaseline = 'middle';
-    const at = [(index % state.columns) * side + side / 2, Math.floor(index / state.columns) * side + side / 2 + 1];
+    const at = [
+      (index % state.columns) * side + side / 2,
+      Math.floor(index / state.columns) * side + side / 2 + 1
+    ];
     const text = round < 0 ? '?' : String(round);
     pen.strokeText(text, ...at);
     pen.fillText(text, ...at);
   });
 }
 
-/** Draws what `play.shown` has: `line` (rows first, or null), `cells`, `premises`; and `play.heat`, the round of each cell. */
+/**
+ * Draws what `play.shown` has: `line` (rows first, or null), `cells`, `premises`; and `play.heat`,
+ * the round of each cell.
+ */
 export function drawShown(pen) {
-  const { shown, heat, side, state } = play;
+  const {shown, heat, side, state} = play;
   if (heat) drawHeat(pen, heat);
   if (!shown) return;
   if (shown.line !== null) {
@@ -47,8 +65,10 @@ export function drawShown(pen) {
     const at = across ? shown.line : shown.line - state.rows;
     pen.strokeStyle = NEW;
     pen.lineWidth = 3;
-    if (across) pen.strokeRect(1, at * side, state.columns * side - 1, side);
-    else pen.strokeRect(at * side, 1, side, state.rows * side - 1);
+    if (across)
+      pen.strokeRect(1, at * side, state.columns * side - 1, side);
+    else
+      pen.strokeRect(at * side, 1, side, state.rows * side - 1);
   }
   for (const index of shown.premises) ring(pen, index, USED, 2, [3, 2]);
   for (const index of shown.cells) ring(pen, index, NEW, 2.5, []);

@@ -1,39 +1,72 @@
-// Walk through: the solving path on the field, step by step, with a slider, the hardest step, and the heat map.
+// Walk through: the solving path on the field, step by step, with a slider, the hardest step, and
+// the heat map.
 
-import { $, buttonOf, make } from '../base/elements.js';
-import { clamp } from '../base/words.js';
-import { phrase } from '../texts/phrase.js';
-import { runAction } from '../view/actions.js';
-import { confirmDialog } from '../view/dialogs.js';
-import { inkName } from '../view/dress.js';
-import { knownIn, stepText } from './hints.js';
-import { Walk, pathOf } from './path.js';
-import { play, playSays } from './play.js';
-import { drawPlay, refitPlay } from './playdraw.js';
+import {$, buttonOf, make} from '../base/elements.js';
+import {clamp} from '../base/words.js';
+import {phrase} from '../texts/phrase.js';
+import {runAction} from '../view/actions.js';
+import {confirmDialog} from '../view/dialogs.js';
+import {inkName} from '../view/dress.js';
+import {knownIn, stepText} from './hints.js';
+import {Walk, pathOf} from './path.js';
+import {play, playSays} from './play.js';
+import {drawPlay, refitPlay} from './playdraw.js';
 
-const PACE = 900; // milliseconds a step
+const PACE = 900;  // milliseconds a step
 
-const walking = { walk: null, at: 0, told: '', isKnown: false, timer: 0, marks: null, mayShow: null };
+const walking = {
+  walk: null,
+  at: 0,
+  told: '',
+  isKnown: false,
+  timer: 0,
+  marks: null,
+  mayShow: null
+};
 
 /** Whether the path is shown in place of the player's marks. */
 export const isWalking = () => walking.walk !== null;
 
 /** The bar of the path, which is hidden until it is walked. */
 export function walkBar() {
-  return make('div', { id: 'walk-bar', class: 'group', hidden: true },
-    buttonOf('walk-back', '◂', () => goTo(walking.at - 1), { 'aria-label': phrase('play.stepBack') }),
-    make('input', { type: 'range', id: 'walk-at', min: 0, value: 0, 'aria-label': phrase('play.step'), oninput: (event) => goTo(Number(event.target.value)) }),
-    buttonOf('walk-on', '▸', () => goTo(walking.at + 1), { 'aria-label': phrase('play.stepOn') }),
-    buttonOf('walk-play', phrase('play.playSteps'), turnPlaying), buttonOf('walk-hardest', phrase('play.hardestStep'), () => goTo(walking.walk.hardest)),
-    make('label', {}, make('input', { type: 'checkbox', id: 'walk-heat', onchange: showHeat }), phrase('play.heatMap')),
-    buttonOf('walk-save', 'GIF', () => runAction('export-path'), { title: phrase('export.pathGif'), 'aria-label': phrase('export.pathGif') }),
-    buttonOf('walk-end', phrase('play.solveYourself'), endWalk));
+  return make(
+      'div',
+      {id: 'walk-bar', class: 'group', hidden: true},
+      buttonOf(
+          'walk-back', '◂', () => goTo(walking.at - 1), {'aria-label': phrase('play.stepBack')}
+      ),
+      make('input', {
+        type: 'range',
+        id: 'walk-at',
+        min: 0,
+        value: 0,
+        'aria-label': phrase('play.step'),
+        oninput: (event) => goTo(Number(event.target.value))
+      }),
+      buttonOf('walk-on', '▸', () => goTo(walking.at + 1), {'aria-label': phrase('play.stepOn')}),
+      buttonOf('walk-play', phrase('play.playSteps'), turnPlaying),
+      buttonOf('walk-hardest', phrase('play.hardestStep'), () => goTo(walking.walk.hardest)),
+      make(
+          'label',
+          {},
+          make('input', {type: 'checkbox', id: 'walk-heat', onchange: showHeat}),
+          phrase('play.heatMap')
+      ),
+      buttonOf('walk-save', 'GIF', () => runAction('export-path'), {
+        title: phrase('export.pathGif'),
+        'aria-label': phrase('export.pathGif')
+      }),
+      buttonOf('walk-end', phrase('play.solveYourself'), endWalk)
+  );
 }
 
 // Whether a puzzle's solution may be shown: who has it from others is asked once for each.
 async function mayShow(state) {
   if (!document.body.classList.contains('player') || walking.mayShow === state) return true;
-  if (!(await confirmDialog(phrase('play.walkThrough'), phrase('play.showsSolution'), phrase('play.walkThrough')))) return false;
+  if (!(await confirmDialog(
+          phrase('play.walkThrough'), phrase('play.showsSolution'), phrase('play.walkThrough')
+      )))
+    return false;
   walking.mayShow = state;
   return play.state === state;
 }
@@ -44,9 +77,9 @@ export async function startWalk() {
   walking.marks ??= play.marks;
   $('walk-bar').hidden = false;
   refitPlay(false);
-  const { state } = play;
+  const {state} = play;
   const isShown = () => $('walk-bar') !== null && !$('walk-bar').hidden && play.state === state;
-  Object.assign(walking, { walk: new Walk(state), isKnown: false });
+  Object.assign(walking, {walk: new Walk(state), isKnown: false});
   goTo(0);
   $('walk-at').focus();
   const show = (found) => {
@@ -54,30 +87,38 @@ export async function startWalk() {
     Object.assign(walking, found);
     goTo(walking.at);
   };
-  await pathOf(state, (walk) => show({ walk }));
-  show({ isKnown: true });
+  await pathOf(state, (walk) => show({walk}));
+  show({isKnown: true});
 }
 
 // ---- steps
 
-function textOf({ line, cells, premises }) {
-  if (line !== null) return stepText({ line, cells: cells.map(({ index }) => index), premises });
-  const { state } = play;
-  const [{ index, letter }] = cells;
+function textOf({line, cells, premises}) {
+  if (line !== null) return stepText({line, cells: cells.map(({index}) => index), premises});
+  const {state} = play;
+  const [{index, letter}] = cells;
   const colour = letter === '.' ? phrase('view.background') : inkName(state, letter);
-  return phrase('play.suppose', { place: phrase('view.placeOfCell', { value: Math.floor(index / state.columns) + 1, columns: (index % state.columns) + 1 }), colour });
+  return phrase('play.suppose', {
+    place: phrase(
+        'view.placeOfCell',
+        {value: Math.floor(index / state.columns) + 1, columns: (index % state.columns) + 1}
+    ),
+    colour
+  });
 }
 
 function goTo(at) {
-  const { walk } = walking;
+  const {walk} = walking;
   if (!walk) return;
   walking.at = clamp(at, 0, walk.steps.length);
   const letters = walk.letters(walking.at);
-  const { columns, rows } = play.state;
-  play.marks = Array.from({ length: rows }, (_, row) => letters.slice(row * columns, (row + 1) * columns));
-  const step = walking.at > 0 ? { ...walk.steps[walking.at - 1], premises: [] } : null;
+  const {columns, rows} = play.state;
+  play.marks =
+      Array.from({length: rows}, (_, row) => letters.slice(row * columns, (row + 1) * columns));
+  const step = walking.at > 0 ? {...walk.steps[walking.at - 1], premises: []} : null;
   if (step && step.line !== null) step.premises = knownIn(step.line, walk.letters(walking.at - 1));
-  play.shown = step && { line: step.line, cells: step.cells.map(({ index }) => index), premises: step.premises };
+  play.shown =
+      step && {line: step.line, cells: step.cells.map(({index}) => index), premises: step.premises};
   walking.told = step ? `: ${textOf(step)}` : phrase('play.emptyPuzzle');
   showLength();
   if (walking.isKnown && walking.at === walk.steps.length) stopPlaying();
@@ -86,13 +127,16 @@ function goTo(at) {
 
 // Where the path stands, and how long it is as far as it is known.
 function showLength() {
-  const { walk, at, told } = walking;
+  const {walk, at, told} = walking;
   $('walk-at').max = walk.steps.length;
   $('walk-at').value = at;
   $('walk-back').disabled = at === 0;
   $('walk-on').disabled = at === walk.steps.length;
   $('walk-hardest').disabled = !walking.isKnown;
-  playSays(phrase('play.stepOf', { at, count: walk.steps.length, isWhole: walking.isKnown ? '' : phrase('play.soFar'), told }));
+  playSays(phrase(
+      'play.stepOf',
+      {at, count: walk.steps.length, isWhole: walking.isKnown ? '' : phrase('play.soFar'), told}
+  ));
 }
 
 function turnPlaying() {
@@ -118,28 +162,40 @@ function showHeat() {
 export function endWalk() {
   stopPlaying();
   if (walking.marks) play.marks = walking.marks;
-  Object.assign(walking, { walk: null, marks: null, at: 0 });
-  Object.assign(play, { shown: null, heat: null });
+  Object.assign(walking, {walk: null, marks: null, at: 0});
+  Object.assign(play, {shown: null, heat: null});
   if (!$('walk-bar')) return;
   $('walk-bar').hidden = true;
   refitPlay(false);
   $('walk-heat').checked = false;
   playSays('');
   drawPlay();
-  $('play-field').focus({ preventScroll: true });
+  $('play-field').focus({preventScroll: true});
 }
 
-const KEYS = { ArrowLeft: -1, ArrowRight: 1, PageUp: -10, PageDown: 10 };
+const KEYS = {
+  ArrowLeft: -1,
+  ArrowRight: 1,
+  PageUp: -10,
+  PageDown: 10
+};
 
 /** Takes a key of the path; answers whether it was one. */
 export function walkKey(event) {
   if (!isWalking()) return false;
-  if (event.key in KEYS) goTo(walking.at + KEYS[event.key]);
-  else if (event.target === $('walk-at')) return false;
-  else if (event.key === 'Home') goTo(0);
-  else if (event.key === 'End') goTo(walking.walk.steps.length);
-  else if (event.key === ' ' && event.target === $('play-field')) turnPlaying();
-  else if (event.key === 'h' && walking.isKnown) goTo(walking.walk.hardest);
-  else return false;
+  if (event.key in KEYS)
+    goTo(walking.at + KEYS[event.key]);
+  else if (event.target === $('walk-at'))
+    return false;
+  else if (event.key === 'Home')
+    goTo(0);
+  else if (event.key === 'End')
+    goTo(walking.walk.steps.length);
+  else if (event.key === ' ' && event.target === $('play-field'))
+    turnPlaying();
+  else if (event.key === 'h' && walking.isKnown)
+    goTo(walking.walk.hardest);
+  else
+    return false;
   return true;
 }

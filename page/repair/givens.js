@@ -1,20 +1,24 @@
 // Few cells to be given until a puzzle has one solution, or until line logic solves it.
 //
-// Each second picture is a set of cells one of which must be given. The fewest cells that meet all sets so far are asked for, and
-// a further picture is a further set: so what has one solution at last has the fewest cells, and that is known.
+// Each second picture is a set of cells one of which must be given. The fewest cells that meet all
+// sets so far are asked for, and a further picture is a further set: so what has one solution at
+// last has the fewest cells, and that is known.
 
-import { Narrowing } from './narrowing.js';
+import {Narrowing} from './narrowing.js';
 
-const FEW = 3; // so many given cells for line logic are looked for by trying all
-const MOST_TRIED = 40; // open cells that are tried where no second picture is known
+const FEW = 3;          // so many given cells for line logic are looked for by trying all
+const MOST_TRIED = 40;  // open cells that are tried where no second picture is known
 
 /** The cells that line logic leaves open where `given` are given besides the board's own. */
-export const openWith = (board, given) => new Narrowing(board, { givens: [...board.givens, ...given] }).settle().openCells();
+export const openWith = (board, given) =>
+    new Narrowing(board, {givens: [...board.givens, ...given]}).settle().openCells();
 
-// The cells in which two pictures differ, in parts that share no line: each part alone is a second picture.
+// The cells in which two pictures differ, in parts that share no line: each part alone is a second
+// picture.
 function partsOf(board, other) {
   const differing = [];
-  for (let index = 0; index < other.length; index++) if (other[index] !== board.cells[index]) differing.push(index);
+  for (let index = 0; index < other.length; index++)
+    if (other[index] !== board.cells[index]) differing.push(index);
   const parts = [];
   while (differing.length > 0) {
     const part = [differing.pop()];
@@ -22,7 +26,8 @@ function partsOf(board, other) {
     for (let at = 0; at < part.length; at++) {
       for (const line of board.linesOf(part[at])) lines.add(line);
       for (let to = differing.length - 1; to >= 0; to--) {
-        if (board.linesOf(differing[to]).some((line) => lines.has(line))) part.push(...differing.splice(to, 1));
+        if (board.linesOf(differing[to]).some((line) => lines.has(line)))
+          part.push(...differing.splice(to, 1));
       }
     }
     parts.push(part);
@@ -69,11 +74,15 @@ function meeting(sets, given, left, check) {
 // The cell that meets most of the sets that are not met.
 function heaviest(sets, given) {
   let best = [0, -1];
-  for (const [index, count] of weights(sets, given)) if (count > best[0]) best = [count, index];
+  for (const [index, count] of weights(sets, given))
+    if (count > best[0]) best = [count, index];
   return best[1];
 }
 
-/** The search for the fewest cells to be given until the verdict is unique. `hooks.found({ given, isLeast })` hears what suffices. */
+/**
+ * The search for the fewest cells to be given until the verdict is unique. `hooks.found({ given,
+ * isLeast })` hears what suffices.
+ */
 export class Giving {
   constructor(board, asker, limit, hooks) {
     this.board = board;
@@ -83,23 +92,27 @@ export class Giving {
     this.check = () => limit.check(asker.questions);
   }
 
-  // The verdict's word where these cells are given. Each part in which a second picture differs is added to `sets`.
+  // The verdict's word where these cells are given. Each part in which a second picture differs is
+  // added to `sets`.
   async #word(given) {
     this.check();
-    const { word, other } = await this.asker.ask(this.board.cells, given);
+    const {word, other} = await this.asker.ask(this.board.cells, given);
     if (other) this.sets.push(...partsOf(this.board, other));
     return word;
   }
 
   async run() {
     const enough = await this.#greedy();
-    this.hooks.found({ given: [...enough], isLeast: enough.size < 2 });
+    this.hooks.found({given: [...enough], isLeast: enough.size < 2});
     await this.#leaveOut(enough);
-    const { given, isKnown } = await this.fewest(enough.size);
-    if (isKnown) this.hooks.found({ given: given ?? [...enough], isLeast: true });
+    const {given, isKnown} = await this.fewest(enough.size);
+    if (isKnown) this.hooks.found({given: given ?? [...enough], isLeast: true});
   }
 
-  /** The fewest cells that suffice, where fewer than `bound` do: `given` or null, and whether that is known. */
+  /**
+   * The fewest cells that suffice, where fewer than `bound` do: `given` or null, and whether that
+   * is known.
+   */
   async fewest(bound) {
     for (let most = 0; most < bound;) {
       const given = meeting(this.sets, new Set(), most, this.check);
@@ -108,26 +121,33 @@ export class Giving {
         continue;
       }
       const word = await this.#word(given);
-      if (word !== 'ambiguous') return { given: word === 'unique' ? [...given] : null, isKnown: word === 'unique' };
+      if (word !== 'ambiguous')
+        return {given: word === 'unique' ? [...given] : null, isKnown: word === 'unique'};
     }
-    return { given: null, isKnown: true };
+    return {given: null, isKnown: true};
   }
 
-  // Cells, one after the other, until they suffice: that which meets most sets, or where nothing is known an open one.
+  // Cells, one after the other, until they suffice: that which meets most sets, or where nothing is
+  // known an open one.
   async #greedy() {
     const given = new Set();
     for (;;) {
       const word = await this.#word(given);
       if (word === 'unique') return given;
-      given.add(word === 'ambiguous' ? heaviest(this.sets, given) : settling(this.board, given, this.check));
+      given.add(
+          word === 'ambiguous' ? heaviest(this.sets, given) :
+                                 settling(this.board, given, this.check)
+      );
     }
   }
 
   async #leaveOut(given) {
     for (const index of [...given]) {
       given.delete(index);
-      if ((await this.#word(given)) !== 'unique') given.add(index);
-      else this.hooks.found({ given: [...given], isLeast: given.size < 2 });
+      if ((await this.#word(given)) !== 'unique')
+        given.add(index);
+      else
+        this.hooks.found({given: [...given], isLeast: given.size < 2});
     }
   }
 }
@@ -140,12 +160,13 @@ function settling(board, given, check) {
   for (let at = 0; at < open.length; at += step) {
     check();
     const left = openWith(board, [...given, open[at]]).length;
-    if (!best || left < best.left) best = { index: open[at], left };
+    if (!best || left < best.left) best = {index: open[at], left};
   }
   return best.index;
 }
 
-// Cells to be given until line logic solves the puzzle, fewer than `bound`: that which settles most, again and again. Or null.
+// Cells to be given until line logic solves the puzzle, fewer than `bound`: that which settles
+// most, again and again. Or null.
 function settlers(board, bound, check) {
   const chosen = [];
   for (let open = openWith(board, []); open.length > 0;) {
@@ -154,7 +175,7 @@ function settlers(board, bound, check) {
     for (const index of open) {
       check();
       const rest = openWith(board, [...chosen, index]);
-      if (!best || rest.length < best.rest.length) best = { index, rest };
+      if (!best || rest.length < best.rest.length) best = {index, rest};
     }
     chosen.push(best.index);
     open = best.rest;
@@ -162,24 +183,31 @@ function settlers(board, bound, check) {
   return chosen;
 }
 
-/** Cells, fewer than `bound`, that have line logic solve the puzzle, as the session says too; or null. */
+/**
+ * Cells, fewer than `bound`, that have line logic solve the puzzle, as the session says too; or
+ * null.
+ */
 export async function fewForLines(board, asker, limit, bound) {
   const chosen = settlers(board, bound, () => limit.check(asker.questions));
   return chosen && (await asker.isSolved(board.cells, new Set(chosen))) ? chosen : null;
 }
 
-/** Few cells to be given until line logic solves the puzzle: the cell that settles most, again and again; then by trying all few. */
+/**
+ * Few cells to be given until line logic solves the puzzle: the cell that settles most, again and
+ * again; then by trying all few.
+ */
 export async function givensForLines(board, asker, limit, hooks) {
   const check = () => limit.check(asker.questions);
   const chosen = settlers(board, Infinity, check);
   if (!(await asker.isSolved(board.cells, new Set(chosen)))) return;
-  hooks.found({ given: chosen, isLeast: chosen.length < 2 });
+  hooks.found({given: chosen, isLeast: chosen.length < 2});
   const open = openWith(board, []);
   for (let count = 1; count < chosen.length && count <= FEW; count++) {
     const given = anyOf(board, open, count, check);
-    if (given && (await asker.isSolved(board.cells, new Set(given)))) return void hooks.found({ given, isLeast: true });
+    if (given && (await asker.isSolved(board.cells, new Set(given))))
+      return void hooks.found({given, isLeast: true});
   }
-  if (chosen.length <= FEW + 1) hooks.found({ given: chosen, isLeast: true });
+  if (chosen.length <= FEW + 1) hooks.found({given: chosen, isLeast: true});
 }
 
 // So many of the open cells that suffice, or null.

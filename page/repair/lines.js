@@ -1,11 +1,13 @@
-// One line of a nonogram: which colours a cell has in some filling of it. For searches alone: what they find, the session judges.
+// One line of a nonogram: which colours a cell has in some filling of it. For searches alone: what
+// they find, the session judges.
 //
 // Candidates are a mask for each cell: bit 0 is the background, bit k colour k.
 
-export const MOST_CELLS = 120; // of a line; it has no more blocks
+export const MOST_CELLS = 120;  // of a line; it has no more blocks
 const STRIDE = MOST_CELLS + 1;
 
-// Room that each call writes anew. `ends` and `begins` have a row for each number of blocks and a column for each place.
+// Room that each call writes anew. `ends` and `begins` have a row for each number of blocks and a
+// column for each place.
 const least = new Int32Array(MOST_CELLS + 1);
 const gaps = new Uint8Array(MOST_CELLS + 1);
 const ends = new Uint8Array((MOST_CELLS + 1) * STRIDE);
@@ -22,24 +24,26 @@ export function clueOf(cells) {
     lengths.push(at - from);
     colours.push(cells[from]);
   }
-  return { lengths, colours };
+  return {lengths, colours};
 }
 
-// For each colour of the clue and each place: where a run of that colour that ends there may begin at the earliest.
-function findFree(masks, size, { colours }) {
+// For each colour of the clue and each place: where a run of that colour that ends there may begin
+// at the earliest.
+function findFree(masks, size, {colours}) {
   let seen = 0;
   for (const colour of colours) {
     if (seen & (1 << colour)) continue;
     seen |= 1 << colour;
     const row = colour * STRIDE;
     free[row] = 0;
-    for (let at = 0; at < size; at++) free[row + at + 1] = (masks[at] >> colour) & 1 ? free[row + at] : at + 1;
+    for (let at = 0; at < size; at++)
+      free[row + at + 1] = (masks[at] >> colour) & 1 ? free[row + at] : at + 1;
   }
 }
 
-// Fills `least`: how many cells the first so many blocks need, with the gaps between them; and `gaps`: 1 where a block has the
-// colour of the one before it, else 0.
-function fillLeast({ lengths, colours }) {
+// Fills `least`: how many cells the first so many blocks need, with the gaps between them; and
+// `gaps`: 1 where a block has the colour of the one before it, else 0.
+function fillLeast({lengths, colours}) {
   least[0] = 0;
   for (let block = 0; block < lengths.length; block++) {
     gaps[block] = block > 0 && colours[block] === colours[block - 1] ? 1 : 0;
@@ -47,13 +51,15 @@ function fillLeast({ lengths, colours }) {
   }
 }
 
-// `ends`: whether the first blocks fit into the cells before a place. Answers whether all fit into the line.
-function fitFromTheFront(masks, slack, { lengths, colours }) {
+// `ends`: whether the first blocks fit into the cells before a place. Answers whether all fit into
+// the line.
+function fitFromTheFront(masks, slack, {lengths, colours}) {
   ends[0] = 1;
   for (let at = 1; at <= slack; at++) ends[at] = ends[at - 1] & masks[at - 1];
   let some = 1;
   for (let block = 0; block < lengths.length && some; block++) {
-    const [length, gap, row, before] = [lengths[block], gaps[block], (block + 1) * STRIDE, block * STRIDE];
+    const [length, gap, row, before] =
+        [lengths[block], gaps[block], (block + 1) * STRIDE, block * STRIDE];
     const colour = colours[block] * STRIDE;
     some = 0;
     for (let at = least[block + 1], last = at + slack, fits = 0; at <= last; at++) {
@@ -69,8 +75,9 @@ function fitFromTheFront(masks, slack, { lengths, colours }) {
   return some && ends[lengths.length * STRIDE + least[lengths.length] + slack];
 }
 
-// `begins`: whether the blocks from one on fit into the cells from a place on, where the block before it ends there.
-function fitFromTheBack(masks, slack, { lengths, colours }) {
+// `begins`: whether the blocks from one on fit into the cells from a place on, where the block
+// before it ends there.
+function fitFromTheBack(masks, slack, {lengths, colours}) {
   const count = lengths.length;
   for (let block = count; block >= 0; block--) {
     const [first, row] = [least[block], block * STRIDE];
@@ -78,7 +85,8 @@ function fitFromTheBack(masks, slack, { lengths, colours }) {
       if (at < first + slack) fits &= masks[at] & 1;
       if (!fits && block < count) {
         const to = at + gaps[block] + lengths[block];
-        const isFree = free[colours[block] * STRIDE + to] <= to - lengths[block] && (!gaps[block] || masks[at] & 1);
+        const isFree = free[colours[block] * STRIDE + to] <= to - lengths[block] &&
+            (!gaps[block] || masks[at] & 1);
         fits = isFree ? begins[row + STRIDE + to] : 0;
       }
       begins[row + at] = fits;
@@ -87,30 +95,35 @@ function fitFromTheBack(masks, slack, { lengths, colours }) {
 }
 
 // Adds to `out` what each filling has: the background between blocks, then the blocks.
-function gather(masks, slack, { lengths, colours }, out) {
+function gather(masks, slack, {lengths, colours}, out) {
   const count = lengths.length;
   for (let block = 0; block <= count; block++) {
     const row = block * STRIDE;
-    for (let at = least[block], last = at + slack; at < last; at++) out[at] |= ends[row + at] & begins[row + at + 1] & masks[at] & 1;
+    for (let at = least[block], last = at + slack; at < last; at++)
+      out[at] |= ends[row + at] & begins[row + at + 1] & masks[at] & 1;
   }
   for (let block = 0; block < count; block++) {
-    const [length, gap, row, colour] = [lengths[block], gaps[block], block * STRIDE, colours[block]];
+    const [length, gap, row, colour] =
+        [lengths[block], gaps[block], block * STRIDE, colours[block]];
     for (let at = least[block], last = at + slack, filled = 0; at <= last; at++) {
       const from = at + gap;
-      if (!ends[row + at] || !begins[row + STRIDE + from + length] || free[colour * STRIDE + from + length] > from) continue;
+      if (!ends[row + at] || !begins[row + STRIDE + from + length] ||
+          free[colour * STRIDE + from + length] > from)
+        continue;
       if (gap) {
         if (!(masks[at] & 1)) continue;
         out[at] |= 1;
       }
-      for (let cell = Math.max(from, filled); cell < from + length; cell++) out[cell] |= 1 << colour;
+      for (let cell = Math.max(from, filled); cell < from + length; cell++)
+        out[cell] |= 1 << colour;
       filled = from + length;
     }
   }
 }
 
 /**
- * Puts into `out` the candidates of `masks` that some filling of a line with this clue has. Answers false, and no candidates at
- * all, where none fits. `size` cells, at most 120.
+ * Puts into `out` the candidates of `masks` that some filling of a line with this clue has. Answers
+ * false, and no candidates at all, where none fits. `size` cells, at most 120.
  */
 export function narrow(masks, size, clue, out) {
   out.fill(0, 0, size);

@@ -1,13 +1,15 @@
-// What line logic leaves of a candidate, for searches alone: they try thousands a second, and the session judges what they find.
+// What line logic leaves of a candidate, for searches alone: they try thousands a second, and the
+// session judges what they find.
 
-import { MOST_CELLS, narrow } from './lines.js';
+import {MOST_CELLS, narrow} from './lines.js';
 
 const line = new Uint16Array(MOST_CELLS);
 const out = new Uint16Array(MOST_CELLS);
 
 const isSettled = (mask) => (mask & (mask - 1)) === 0;
 
-// What a clue alone leaves of its line's cells. It is kept with the clue, which most candidates share.
+// What a clue alone leaves of its line's cells. It is kept with the clue, which most candidates
+// share.
 function aloneOf(clue, size, all) {
   if (!clue.alone) {
     clue.alone = new Uint16Array(size);
@@ -16,28 +18,38 @@ function aloneOf(clue, size, all) {
   return clue.alone;
 }
 
-/** The candidates of a puzzle's cells, a mask each, narrowed line by line: `cells` are its picture's, `clues` those of its lines. */
+/**
+ * The candidates of a puzzle's cells, a mask each, narrowed line by line: `cells` are its
+ * picture's, `clues` those of its lines.
+ */
 export class Narrowing {
   /** `from` is a settled narrowing of the puzzle with fewer givens, from which this one goes on. */
-  constructor(board, { cells = board.cells, givens = board.givens, clues = board.clues } = {}, from = null) {
+  constructor(
+      board, {cells = board.cells, givens = board.givens, clues = board.clues} = {}, from = null
+  ) {
     this.board = board;
     this.cells = cells;
     this.clues = clues;
     this.isNew = !from;
     this.isDue = new Uint8Array(board.lines);
     this.masks = from?.masks.slice() ?? new Uint16Array(cells.length).fill(board.all);
-    this.openIn = from?.openIn.slice() ?? Int32Array.from(this.isDue, (_, one) => (isSettled(board.all) ? 0 : board.sizeOf(one)));
+    this.openIn = from?.openIn.slice() ??
+        Int32Array.from(this.isDue, (_, one) => (isSettled(board.all) ? 0 : board.sizeOf(one)));
     for (const index of givens) this.#write(index, 1 << cells[index], null);
   }
 
   /** What line logic leaves of a settled narrowing where one cell more is given. */
   given(index) {
-    return new Narrowing(this.board, { cells: this.cells, givens: [index], clues: this.clues }, this).settle();
+    return new Narrowing(
+               this.board, {cells: this.cells, givens: [index], clues: this.clues}, this
+    ).settle();
   }
 
   /** Looks at lines until none excludes anything more. */
   settle() {
-    if (this.isNew) for (let one = 0; one < this.isDue.length; one++) this.#keep(one, aloneOf(this.clues[one], this.board.sizeOf(one), this.board.all));
+    if (this.isNew)
+      for (let one = 0; one < this.isDue.length; one++)
+        this.#keep(one, aloneOf(this.clues[one], this.board.sizeOf(one), this.board.all));
     this.isNew = false;
     for (let looks = 1; looks > 0;) {
       looks = 0;
@@ -53,13 +65,14 @@ export class Narrowing {
   /** The indices of the open cells. */
   openCells() {
     const found = [];
-    for (let index = 0; index < this.masks.length; index++) if (!isSettled(this.masks[index])) found.push(index);
+    for (let index = 0; index < this.masks.length; index++)
+      if (!isSettled(this.masks[index])) found.push(index);
     return found;
   }
 
   // Excludes what none of a line's fillings has.
   #look(one) {
-    const { board, masks } = this;
+    const {board, masks} = this;
     const [first, step] = board.placeOf(one);
     const size = board.sizeOf(one);
     for (let at = 0; at < size; at++) line[at] = masks[first + at * step];
@@ -78,7 +91,8 @@ export class Narrowing {
     }
   }
 
-  // Puts candidates that were excluded in a line, or in none: then both of the cell's lines are due.
+  // Puts candidates that were excluded in a line, or in none: then both of the cell's lines are
+  // due.
   #write(index, mask, one) {
     const [row, column] = this.board.linesOf(index);
     const wasOpen = !isSettled(this.masks[index]);

@@ -1,10 +1,14 @@
-// The places where line solving stalls: groups of open cells, none of which settles a cell of another group. Each is mended by itself.
+// The places where line solving stalls: groups of open cells, none of which settles a cell of
+// another group. Each is mended by itself.
 
-import { Narrowing } from './narrowing.js';
+import {Narrowing} from './narrowing.js';
 
-const MOST_TRIED = 60; // cells that are given, one after the other, to find what they settle
+const MOST_TRIED = 60;  // cells that are given, one after the other, to find what they settle
 
-/** The groups of a board's open cells, each by rising index; all in one where there are many, or `goesOn` says that time is up. */
+/**
+ * The groups of a board's open cells, each by rising index; all in one where there are many, or
+ * `goesOn` says that time is up.
+ */
 export function placesOf(board, goesOn = () => true) {
   const settled = new Narrowing(board).settle();
   const open = settled.openCells();
@@ -17,11 +21,13 @@ export function placesOf(board, goesOn = () => true) {
     let group = open.filter((one) => !still.has(one));
     for (const one of group) unseen.delete(one);
     const isApart = (other) => !other.some((one) => group.includes(one));
-    group = [...new Set([group, ...groups.filter((other) => !isApart(other))].flat())].sort((one, other) => one - other);
+    group = [...new Set([group, ...groups.filter((other) => !isApart(other))].flat()
+             )].sort((one, other) => one - other);
     groups = [...groups.filter(isApart), group];
   }
   return groups.sort(([one], [other]) => one - other);
 }
 
 /** For each place the open cells of the others: given, they leave that place alone to be mended. */
-export const elsewhere = (places) => places.map((place) => places.filter((other) => other !== place).flat());
+export const elsewhere = (places) =>
+    places.map((place) => places.filter((other) => other !== place).flat());

@@ -1,35 +1,38 @@
-// Repairs of a picture that is ambiguous, or that needs a guess: few cells to repaint until it is unique, or solved by line logic.
+// Repairs of a picture that is ambiguous, or that needs a guess: few cells to repaint until it is
+// unique, or solved by line logic.
 //
-//     await repair({ board, goal: 'unique', say, seconds: 10 }, { found: (proposal) => ..., nearer: (near) => ..., told: (text) => ... })
+//     await repair({ board, goal: 'unique', say, seconds: 10 }, { found: (proposal) => ..., nearer:
+//     (near) => ..., told: (text) => ... })
 //
-// `say` puts lines to a proved session that shows the board's picture, and gives its text or a promise of it. Every proposal was
-// judged by the session. `give` looks for cells to give, `mix` for some of both, and `aim` for a grade.
+// `say` puts lines to a proved session that shows the board's picture, and gives its text or a
+// promise of it. Every proposal was judged by the session. `give` looks for cells to give, `mix`
+// for some of both, and `aim` for a grade.
 
-import { chances } from '../base/chance.js';
-import { Aiming } from './aiming.js';
-import { Asker } from './asker.js';
-import { climb, dive } from './descents.js';
-import { Giving, givensForLines } from './givens.js';
-import { Judge, SpentError } from './judge.js';
-import { Nearest, mixAll } from './mixing.js';
-import { elsewhere, placesOf } from './places.js';
-import { Search } from './search.js';
+import {chances} from '../base/chance.js';
+import {Aiming} from './aiming.js';
+import {Asker} from './asker.js';
+import {climb, dive} from './descents.js';
+import {Giving, givensForLines} from './givens.js';
+import {Judge, SpentError} from './judge.js';
+import {Nearest, mixAll} from './mixing.js';
+import {elsewhere, placesOf} from './places.js';
+import {Search} from './search.js';
 
-const MOST_ONES = 24; // repairs of one cell that are listed
-const MOST_TWOS = 24; // repairs of two
-const STEPS = 40; // of a dive
-const ROUNDS = 12; // of random dives
-const DUSTY = 120; // open cells from which on a picture is loose
+const MOST_ONES = 24;  // repairs of one cell that are listed
+const MOST_TWOS = 24;  // repairs of two
+const STEPS = 40;      // of a dive
+const ROUNDS = 12;     // of random dives
+const DUSTY = 120;     // open cells from which on a picture is loose
 const MOST_QUESTIONS = 2000;
-const MOST_NEAR = 8; // cells of what is told as nearer
-const MOST_MIXED = 9; // changes that a mixture stays below
-const FOR_PLACES = 0.15; // of the time, for repairs of one place each
-const PLACE = 150; // milliseconds for one place
-const MOST_TOGETHER = 4; // repairs of all places that are put together of theirs
+const MOST_NEAR = 8;      // cells of what is told as nearer
+const MOST_MIXED = 9;     // changes that a mixture stays below
+const FOR_PLACES = 0.15;  // of the time, for repairs of one place each
+const PLACE = 150;        // milliseconds for one place
+const MOST_TOGETHER = 4;  // repairs of all places that are put together of theirs
 
 /** The end of a search: by the clock, or by the number of questions. */
 class Limit {
-  constructor({ seconds, questions = MOST_QUESTIONS, now = () => performance.now() }) {
+  constructor({seconds, questions = MOST_QUESTIONS, now = () => performance.now()}) {
     this.questions = questions;
     this.now = now;
     this.from = now();
@@ -52,7 +55,7 @@ class Limit {
 
 // A descent: by the engine's second pictures, or where many cells are open by line logic alone.
 async function descend(search, isDusty, options) {
-  await (isDusty ? climb : dive)(search, { steps: STEPS, ...options });
+  await (isDusty ? climb : dive)(search, {steps: STEPS, ...options});
   await search.improve(30);
 }
 
@@ -63,21 +66,22 @@ async function forOneSolution(search, limit) {
   await search.all(2, 450, MOST_TWOS);
   if (search.isDone) return;
   const isDusty = search.openAtFirst > DUSTY;
-  await descend(search, isDusty, { draw });
+  await descend(search, isDusty, {draw});
   if (search.isDone) return;
   if (search.proved < 2) await search.all(2, 1000, MOST_TWOS);
   if (search.isDone) return;
   await search.all(3, 300);
   if (search.isDone) return;
-  await descend(search, !isDusty, { draw });
+  await descend(search, !isDusty, {draw});
   await search.improve(50, 50);
   for (let round = 0; round < ROUNDS && !search.isDone && limit.share(0.6); round++) {
-    await descend(search, round % 2 === 1, { draw, top: 20 + 5 * (round % 4), noise: 0.1 });
+    await descend(search, round % 2 === 1, {draw, top: 20 + 5 * (round % 4), noise: 0.1});
     await search.improve(30, 50);
   }
   if (search.proved < 3) await search.all(3, 300 * limit.seconds);
   await search.improve(500, 500, Infinity);
-  for (let count = search.proved + 1; count <= 7 && !search.isDone; count++) await search.all(count, Infinity);
+  for (let count = search.proved + 1; count <= 7 && !search.isDone; count++)
+    await search.all(count, Infinity);
 }
 
 async function forLines(search, limit) {
@@ -87,28 +91,33 @@ async function forLines(search, limit) {
   await search.all(2, 300, MOST_TWOS);
   if (search.isDone) return;
   for (let round = 0; round < ROUNDS && !search.isDone && limit.share(0.6); round++) {
-    await climb(search, { width: round % 3 === 2 ? 3 : 1, steps: STEPS, draw });
+    await climb(search, {width: round % 3 === 2 ? 3 : 1, steps: STEPS, draw});
     await search.improve(50, 50);
   }
   if (search.proved < 2) await search.all(2, 1000, MOST_TWOS);
   await search.improve(300, 300, Infinity);
-  for (let count = search.proved + 1; count <= 4 && !search.isDone; count++) await search.all(count, Infinity, 4);
+  for (let count = search.proved + 1; count <= 4 && !search.isDone; count++)
+    await search.all(count, Infinity, 4);
 }
 
-/** A candidate as it is shown. `cells` are { index, colour }, `pain` how much it is seen, `open` the cells that line logic leaves. */
-function proposalOf(candidate, goal, { open }) {
-  const { moves, codes } = candidate;
+/**
+ * A candidate as it is shown. `cells` are { index, colour }, `pain` how much it is seen, `open`
+ * the cells that line logic leaves.
+ */
+function proposalOf(candidate, goal, {open}) {
+  const {moves, codes} = candidate;
   return {
     goal,
-    cells: codes.map((code) => ({ index: code >> 4, colour: code & 15 })),
+    cells: codes.map((code) => ({index: code >> 4, colour: code & 15})),
     pain: moves.reduce((sum, move) => sum + move.pain, 0),
     open,
   };
 }
 
-// Where a picture has several places to mend, looks for repairs of each by itself; those of all together are repairs of the whole.
+// Where a picture has several places to mend, looks for repairs of each by itself; those of all
+// together are repairs of the whole.
 async function inPlaces(search, limit, goal, told) {
-  const { board, judge: { asker } } = search;
+  const {board, judge: {asker}} = search;
   const places = placesOf(board, () => limit.share(FOR_PLACES / 3));
   told?.(places);
   if (places.length < 2 || board.mirror) return;
@@ -118,9 +127,14 @@ async function inPlaces(search, limit, goal, told) {
     const found = (candidate, finding) => {
       if (!candidate.codes.length) return;
       repaints[at].push([...candidate.moves]);
-      told?.(places, { ...proposalOf(candidate, goal, finding), place: at });
+      told?.(places, {...proposalOf(candidate, goal, finding), place: at});
     };
-    const one = new Search(board.holding(others[at]), new Judge(asker, goal, new Set(others[at])), limit, { found, tried() {} });
+    const one = new Search(
+        board.holding(others[at]),
+        new Judge(asker, goal, new Set(others[at])),
+        limit,
+        {found, tried() {}}
+    );
     if (!(await one.all(1, PLACE / 2, MOST_ONES))) await one.all(2, PLACE, MOST_TWOS);
   }
   for (const moves of togethers(repaints)) {
@@ -131,12 +145,17 @@ async function inPlaces(search, limit, goal, told) {
 
 // The smallest repaint of each place together, then the next ones of that size.
 function togethers(repaints) {
-  const smallest = repaints.map((list) => list.filter((one) => one.length === Math.min(...list.map((moves) => moves.length))));
+  const smallest = repaints.map(
+      (list) => list.filter((one) => one.length === Math.min(...list.map((moves) => moves.length)))
+  );
   const turns = Math.min(MOST_TOGETHER, ...smallest.map((list) => list.length || 1));
-  return Array.from({ length: turns }, (_, turn) => smallest.flatMap((list) => list[turn] ?? [])).filter((moves) => moves.length > 0);
+  return Array.from(
+                  {length: turns}, (_, turn) => smallest.flatMap((list) => list[turn] ?? [])
+  ).filter((moves) => moves.length > 0);
 }
 
-// Runs a search until it is through or its bounds are spent; answers whether it came through. The session is then as before.
+// Runs a search until it is through or its bounds are spent; answers whether it came through. The
+// session is then as before.
 async function bounded(asker, work) {
   const isThrough = await work().then(() => true, (error) => {
     if (error instanceof SpentError) return false;
@@ -147,84 +166,124 @@ async function bounded(asker, work) {
 }
 
 /**
- * Looks for repairs until the time is up, the questions are spent or nothing smaller is left. Answers `{ best, proved, questions,
- * isThrough, near }`: how many changes the smallest has (or null), up to how many were tried in vain, and what `mix` may begin with.
- * `placed` hears the places where line solving stalls, and then what mends one of them: a proposal with the number of its `place`.
+ * Looks for repairs until the time is up, the questions are spent or nothing smaller is left.
+ * Answers `{ best, proved, questions, isThrough, near }`: how many changes the smallest has (or
+ * null), up to how many were tried in vain, and what `mix` may begin with. `placed` hears the
+ * places where line solving stalls, and then what mends one of them: a proposal with the number of
+ * its `place`.
  */
-export async function repair({ board, goal, say, seconds, ...bounds }, { found = null, nearer = null, placed = null } = {}) {
-  const limit = new Limit({ seconds, ...bounds });
+export async function repair(
+    {board, goal, say, seconds, ...bounds}, {found = null, nearer = null, placed = null} = {}
+) {
+  const limit = new Limit({seconds, ...bounds});
   const asker = new Asker(board, say);
   const near = new Nearest();
   let nearest = Infinity;
   const tried = (finding, candidate) => {
     const far = goal === 'lines' ? finding.open : finding.differing;
     if (candidate.codes.length === 0) nearest = Math.min(nearest, far);
-    if (candidate.codes.length === 0 || candidate.codes.length > MOST_NEAR || !candidate.isNeat()) return;
-    const one = { ...proposalOf(candidate, goal, finding), differing: finding.differing };
+    if (candidate.codes.length === 0 || candidate.codes.length > MOST_NEAR || !candidate.isNeat())
+      return;
+    const one = {...proposalOf(candidate, goal, finding), differing: finding.differing};
     near.note(one, far);
     if (far >= nearest) return;
     nearest = far;
     nearer?.(one);
   };
-  const search = new Search(board, new Judge(asker, goal), limit, { found: (candidate, finding) => found?.(proposalOf(candidate, goal, finding)), tried });
+  const search = new Search(board, new Judge(asker, goal), limit, {
+    found: (candidate, finding) => found?.(proposalOf(candidate, goal, finding)),
+    tried
+  });
   const isThrough = await bounded(asker, async () => {
     await inPlaces(search, limit, goal, placed);
     await (goal === 'lines' ? forLines : forOneSolution)(search, limit);
   });
-  return { best: search.best ? search.size : null, proved: search.proved, questions: asker.questions, isThrough, near: near.all };
+  return {
+    best: search.best ? search.size : null,
+    proved: search.proved,
+    questions: asker.questions,
+    isThrough,
+    near: near.all
+  };
 }
 
 /**
- * Looks for few changes that repaint some cells and give others, beginning with `near` as `repair` answers it: fewer than `bound`
- * together, and fewer each time. Answers how many questions it took.
+ * Looks for few changes that repaint some cells and give others, beginning with `near` as `repair`
+ * answers it: fewer than `bound` together, and fewer each time. Answers how many questions it took.
  */
-export async function mix({ board, goal, near, bound, say, seconds, ...bounds }, { found = null } = {}) {
-  const limit = new Limit({ seconds, ...bounds });
+export async function mix(
+    {board, goal, near, bound, say, seconds, ...bounds}, {found = null} = {}
+) {
+  const limit = new Limit({seconds, ...bounds});
   const asker = new Asker(board, say);
-  await bounded(asker, () => mixAll({ board, goal, beginnings: near, bound: Math.min(bound, MOST_MIXED), asker, limit }, (one) => found?.(one)));
-  return { questions: asker.questions };
+  await bounded(
+      asker,
+      () => mixAll(
+          {board, goal, beginnings: near, bound: Math.min(bound, MOST_MIXED), asker, limit},
+          (one) => found?.(one)
+      )
+  );
+  return {questions: asker.questions};
 }
 
-/** Looks for few cells to be given. Answers `{ given, isLeast, questions }`: the fewest found or null, and whether fewer cannot do. */
-export async function give({ board, goal, say, seconds, ...bounds }, { found = null } = {}) {
-  const limit = new Limit({ seconds, ...bounds });
+/**
+ * Looks for few cells to be given. Answers `{ given, isLeast, questions }`: the fewest found or
+ * null, and whether fewer cannot do.
+ */
+export async function give({board, goal, say, seconds, ...bounds}, {found = null} = {}) {
+  const limit = new Limit({seconds, ...bounds});
   const asker = new Asker(board, say);
-  let last = { given: null, isLeast: false };
+  let last = {given: null, isLeast: false};
   const hooks = {
     found(one) {
       last = one;
       found?.(one);
     },
   };
-  await bounded(asker, () => (goal === 'lines' ? givensForLines(board, asker, limit, hooks) : new Giving(board, asker, limit, hooks).run()));
-  return { ...last, questions: asker.questions };
+  await bounded(
+      asker,
+      () =>
+          (goal === 'lines' ? givensForLines(board, asker, limit, hooks) :
+                              new Giving(board, asker, limit, hooks).run())
+  );
+  return {...last, questions: asker.questions};
 }
 
 // Repaints, as lists of moves, after which line logic solves a board's picture.
 async function solvable(board, asker, limit) {
   const repaints = [];
-  const search = new Search(board, new Judge(asker, 'lines'), limit, { found: ({ moves }) => repaints.push([...moves]), tried() {} });
+  const search = new Search(board, new Judge(asker, 'lines'), limit, {
+    found: ({moves}) => repaints.push([...moves]),
+    tried() {}
+  });
   await bounded(asker, () => forLines(search, limit));
   return repaints;
 }
 
 /**
- * Looks for few cells to repaint, or one to give, until line logic solves the puzzle and `word` says how hard that is. `grade(cells, givens)`
- * answers for the engine: `{ open, word, rounds, wait }`, with a word where no cell is open; and `path()` the places of the cells that fall
- * in the session's picture, in that order. Answers `{ isThere, isThrough, questions }`: whether the picture has the word as it is, and
- * whether the search came through.
+ * Looks for few cells to repaint, or one to give, until line logic solves the puzzle and `word`
+ * says how hard that is. `grade(cells, givens)` answers for the engine: `{ open, word, rounds, wait
+ * }`, with a word where no cell is open; and `path()` the places of the cells that fall in the
+ * session's picture, in that order. Answers `{ isThere, isThrough, questions }`: whether the
+ * picture has the word as it is, and whether the search came through.
  */
-export async function aim({ board, word, say, seconds, grade, path, ...bounds }, { found = null } = {}) {
-  const limit = new Limit({ seconds, ...bounds });
+export async function aim(
+    {board, word, say, seconds, grade, path, ...bounds}, {found = null} = {}
+) {
+  const limit = new Limit({seconds, ...bounds});
   const asker = new Asker(board, say);
   const now = await grade(board.cells, board.givens);
-  if (now.word === word) return { isThere: true, isThrough: true, questions: 0 };
-  const told = (one) => found?.(one.given ? { goal: word, given: one.given, isLeast: true } : proposalOf(one, word, { open: 0 }));
-  const aiming = new Aiming({ board, word, grade, path, asker, limit, found: told });
+  if (now.word === word) return {isThere: true, isThrough: true, questions: 0};
+  const told = (one) => found?.(
+      one.given ? {goal: word, given: one.given, isLeast: true} : proposalOf(one, word, {open: 0})
+  );
+  const aiming = new Aiming({board, word, grade, path, asker, limit, found: told});
   const isThrough = await bounded(asker, async () => {
     await aiming.give();
-    const begun = now.open > 0 ? await solvable(board, asker, new Limit({ seconds: seconds / 2, ...bounds })) : [];
+    const begun = now.open > 0 ?
+        await solvable(board, asker, new Limit({seconds: seconds / 2, ...bounds})) :
+        [];
     await aiming.repaint(begun);
   });
-  return { isThere: false, isThrough, questions: asker.questions };
+  return {isThere: false, isThrough, questions: asker.questions};
 }

@@ -1,15 +1,19 @@
 // The search for few cells to repaint: small sets exactly, and cells of a repair taken back.
 //
-// The engine is asked only of candidates that no known witness refutes. One change meets at most two witnesses that share no
-// line, which bounds the exact search. So where it ends without a find, no smaller repair exists (under the rule and the locks).
+// The engine is asked only of candidates that no known witness refutes. One change meets at most
+// two witnesses that share no line, which bounds the exact search. So where it ends without a find,
+// no smaller repair exists (under the rule and the locks).
 
-import { Candidate } from './board.js';
-import { Pool } from './witness.js';
+import {Candidate} from './board.js';
+import {Pool} from './witness.js';
 
-const KNOWN = 24; // living witnesses looked at in an exact search
-const LOOKS = 16; // candidates for each look at the clock
+const KNOWN = 24;  // living witnesses looked at in an exact search
+const LOOKS = 16;  // candidates for each look at the clock
 
-/** One search. `hooks.found(candidate, finding)` hears each repair, `hooks.tried(finding, candidate)` what misses the goal. */
+/**
+ * One search. `hooks.found(candidate, finding)` hears each repair, `hooks.tried(finding,
+ * candidate)` what misses the goal.
+ */
 export class Search {
   constructor(board, judge, limit, hooks) {
     this.board = board;
@@ -18,16 +22,16 @@ export class Search {
     this.hooks = hooks;
     this.candidate = new Candidate(board);
     this.pool = new Pool();
-    this.best = null; // the moves of the smallest repair
-    this.proved = 0; // no repair has so few moves
-    this.told = new Set(); // the keys of repairs
-    this.wanted = 1; // how many repairs there are when an exact search ends
-    this.until = Infinity; // when an exact search is cut off
+    this.best = null;       // the moves of the smallest repair
+    this.proved = 0;        // no repair has so few moves
+    this.told = new Set();  // the keys of repairs
+    this.wanted = 1;        // how many repairs there are when an exact search ends
+    this.until = Infinity;  // when an exact search is cut off
     this.isCut = false;
-    this.isSure = true; // no candidate was left undecided
+    this.isSure = true;  // no candidate was left undecided
     this.visited = new Set();
-    this.openAtFirst = null; // cells of the board's picture
-    this.last = null; // the last finding
+    this.openAtFirst = null;  // cells of the board's picture
+    this.last = null;         // the last finding
     this.looks = 0;
   }
 
@@ -56,16 +60,19 @@ export class Search {
 
   /** Tells the candidate, which was just judged, as a repair, once. */
   record() {
-    const { candidate } = this;
+    const {candidate} = this;
     if (this.told.has(candidate.key)) return;
     this.told.add(candidate.key);
     if (candidate.moves.length < this.size) this.best = [...candidate.moves];
     this.hooks.found(candidate, this.last);
   }
 
-  /** Searches all sets of at most so many further moves. Answers whether it ends: enough were found, or its time is up. */
+  /**
+   * Searches all sets of at most so many further moves. Answers whether it ends: enough were
+   * found, or its time is up.
+   */
   async exact(left) {
-    const { candidate } = this;
+    const {candidate} = this;
     let living = this.pool.living(candidate, left > 0 ? KNOWN : 1);
     if (living.length === 0) {
       const finding = await this.evaluate();
@@ -116,24 +123,30 @@ export class Search {
   }
 
   #movesAt(witness) {
-    return this.board.moves.filter((move) => !this.candidate.has(move) && witness.meets(move.lines));
+    return this.board.moves.filter(
+        (move) => !this.candidate.has(move) && witness.meets(move.lines)
+    );
   }
 
   // The moves after which none of the living witnesses lives, the least painful first.
   #lastMoves(living) {
-    const { candidate } = this;
-    const moves = this.#movesAt(living[0]).filter((move) => living.every((witness) => witness.meets(move.lines)));
-    return moves.filter((move) => {
-      candidate.make(move);
-      const isLeft = candidate.isNeatAfter(move) && !living.some((witness) => witness.lives(candidate));
-      candidate.takeBack(move);
-      return isLeft;
-    }).sort((one, other) => one.pain - other.pain);
+    const {candidate} = this;
+    const moves = this.#movesAt(living[0]
+    ).filter((move) => living.every((witness) => witness.meets(move.lines)));
+    return moves
+        .filter((move) => {
+          candidate.make(move);
+          const isLeft =
+              candidate.isNeatAfter(move) && !living.some((witness) => witness.lives(candidate));
+          candidate.takeBack(move);
+          return isLeft;
+        })
+        .sort((one, other) => one.pain - other.pain);
   }
 
   // All moves at the first witness: those that end it and most others come first.
   #nextMoves(living, left) {
-    const { candidate } = this;
+    const {candidate} = this;
     const ranked = [];
     for (const move of this.#movesAt(living[0])) {
       if (this.#isPastItsTime()) return [];
@@ -147,7 +160,10 @@ export class Search {
     return ranked.sort(([one], [other]) => one - other).map(([, move]) => move);
   }
 
-  /** Searches from these moves on, within some milliseconds, for so many repairs. Answers whether one was found. */
+  /**
+   * Searches from these moves on, within some milliseconds, for so many repairs. Answers whether
+   * one was found.
+   */
   async within(moves, left, milliseconds, wanted = 1) {
     const before = this.told.size;
     this.candidate.become(moves);
@@ -160,11 +176,15 @@ export class Search {
     return this.told.size > before;
   }
 
-  /** Searches all sets of `count` moves, within some milliseconds. Where none is found and none was left out, that is known then. */
+  /**
+   * Searches all sets of `count` moves, within some milliseconds. Where none is found and none was
+   * left out, that is known then.
+   */
   async all(count, milliseconds, wanted = 1) {
     this.isSure = true;
     const isFound = await this.within([], count, milliseconds, wanted);
-    if (!isFound && !this.isCut && this.isSure && this.proved === count - 1 && this.size > count) this.proved = count;
+    if (!isFound && !this.isCut && this.isSure && this.proved === count - 1 && this.size > count)
+      this.proved = count;
     return isFound;
   }
 
@@ -187,7 +207,7 @@ export class Search {
 
   // Puts one move less in the place of `out` of the best repair's.
   async #swap(out, milliseconds, until) {
-    const { best } = this;
+    const {best} = this;
     if (!best || best.length <= out || milliseconds === 0) return false;
     for (const left of combinations(best, best.length - out)) {
       if (this.limit.now() > until) return false;
@@ -196,7 +216,10 @@ export class Search {
     return false;
   }
 
-  /** Swaps two moves for one, and three for two, while that succeeds: `two` and `three` milliseconds for each try, `all` together. */
+  /**
+   * Swaps two moves for one, and three for two, while that succeeds: `two` and `three`
+   * milliseconds for each try, `all` together.
+   */
   async improve(two, three = 0, all = 1000) {
     const until = this.limit.now() + all;
     while (this.best && !this.isDone) {
@@ -214,7 +237,7 @@ export function countLiving(witnesses, candidate) {
 function countApart(witnesses) {
   const used = new Set();
   let count = 0;
-  for (const { inLine } of witnesses) {
+  for (const {inLine} of witnesses) {
     const lines = [...inLine.keys()];
     if (lines.some((line) => used.has(line))) continue;
     count++;

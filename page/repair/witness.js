@@ -1,14 +1,15 @@
-// Witnesses that a candidate misses the goal. For one solution: other colours for some cells with the same clues. For line logic:
-// cells whose candidates hold one another up. Kept, one refutes further candidates without a question to the engine.
+// Witnesses that a candidate misses the goal. For one solution: other colours for some cells with
+// the same clues. For line logic: cells whose candidates hold one another up. Kept, one refutes
+// further candidates without a question to the engine.
 
-import { MOST_CELLS, clueOf, narrow } from './lines.js';
+import {MOST_CELLS, clueOf, narrow} from './lines.js';
 
 const line = new Uint8Array(MOST_CELLS);
 const other = new Uint8Array(MOST_CELLS);
 const masks = new Uint16Array(MOST_CELLS);
 const kept = new Uint16Array(MOST_CELLS);
-const changed = new Uint8Array(2 * MOST_CELLS); // lines
-const POOL = 4000; // witnesses kept
+const changed = new Uint8Array(2 * MOST_CELLS);  // lines
+const POOL = 4000;                               // witnesses kept
 
 /** Whether two lines of one length have the same clue. */
 export function haveSameClue(one, two, size) {
@@ -34,7 +35,7 @@ export class Witness {
     this.values = Uint16Array.from(values);
     this.codes = codes;
     this.isMask = isMask;
-    this.inLine = new Map(); // line: places along it and their values, one behind the other
+    this.inLine = new Map();  // line: places along it and their values, one behind the other
     cells.forEach((index, at) => {
       const [row, column] = board.linesOf(index);
       this.#note(row, index % board.columns, values[at]);
@@ -51,17 +52,21 @@ export class Witness {
   }
 
   meets(lines) {
-    for (const one of lines) if (this.touches[one]) return true;
+    for (const one of lines)
+      if (this.touches[one]) return true;
     return false;
   }
 
-  // Puts into `changed` the lines of the witness in which a candidate differs from the one where it was found; answers how many.
+  // Puts into `changed` the lines of the witness in which a candidate differs from the one where it
+  // was found; answers how many.
   #findChanged(candidate) {
     const [mine, its] = [this.codes, candidate.codes];
     let [at, to, count] = [0, 0, 0];
     while (at < mine.length || to < its.length) {
-      if (to === its.length || (at < mine.length && mine[at] < its[to])) count = this.#addChanged(mine[at++], count);
-      else if (at === mine.length || its[to] < mine[at]) count = this.#addChanged(its[to++], count);
+      if (to === its.length || (at < mine.length && mine[at] < its[to]))
+        count = this.#addChanged(mine[at++], count);
+      else if (at === mine.length || its[to] < mine[at])
+        count = this.#addChanged(its[to++], count);
       else {
         at++;
         to++;
@@ -71,14 +76,15 @@ export class Witness {
   }
 
   #addChanged(code, count) {
-    const { columns, rows } = this.board;
+    const {columns, rows} = this.board;
     const row = Math.floor((code >> 4) / columns);
     return this.#addLine(rows + ((code >> 4) % columns), this.#addLine(row, count));
   }
 
   #addLine(one, count) {
     if (!this.touches[one]) return count;
-    for (let at = 0; at < count; at++) if (changed[at] === one) return count;
+    for (let at = 0; at < count; at++)
+      if (changed[at] === one) return count;
     changed[count] = one;
     return count + 1;
   }
@@ -91,7 +97,7 @@ export class Witness {
   }
 
   #differs(candidate, count) {
-    const { cells, values } = this;
+    const {cells, values} = this;
     let at = 0;
     while (at < cells.length && candidate.cells[cells[at]] === values[at]) at++;
     if (at === cells.length) return false;
@@ -105,33 +111,41 @@ export class Witness {
     return true;
   }
 
-  // No line may exclude anything from the candidates of the witness's cells, where the other cells are settled.
+  // No line may exclude anything from the candidates of the witness's cells, where the other cells
+  // are settled.
   #holds(candidate, count) {
-    if (!this.cells.some((index, at) => this.values[at] & ~(1 << candidate.cells[index]))) return false;
+    if (!this.cells.some((index, at) => this.values[at] & ~(1 << candidate.cells[index])))
+      return false;
     for (let one = 0; one < count; one++) {
       const size = this.#read(candidate, changed[one]);
       for (let cell = 0; cell < size; cell++) masks[cell] = 1 << line[cell];
       const noted = this.inLine.get(changed[one]);
       for (let place = 0; place < noted.length; place += 2) masks[noted[place]] |= noted[place + 1];
       narrow(masks, size, clueOf(line.subarray(0, size)), kept);
-      for (let cell = 0; cell < size; cell++) if (kept[cell] !== masks[cell]) return false;
+      for (let cell = 0; cell < size; cell++)
+        if (kept[cell] !== masks[cell]) return false;
     }
     return true;
   }
 
   #read(candidate, one) {
-    const { rows, columns } = this.board;
-    const [first, step, size] = one < rows ? [one * columns, 1, columns] : [one - rows, columns, rows];
+    const {rows, columns} = this.board;
+    const [first, step, size] =
+        one < rows ? [one * columns, 1, columns] : [one - rows, columns, rows];
     for (let at = 0; at < size; at++) line[at] = candidate.cells[first + at * step];
     return size;
   }
 }
 
-/** Witnesses of a candidate: the cells with a value, split into parts that share no line. Zero is no value. */
+/**
+ * Witnesses of a candidate: the cells with a value, split into parts that share no line. Zero is
+ * no value.
+ */
 export function witnessesOf(candidate, values, isMask) {
-  const { board } = candidate;
-  const { rows, columns } = board;
-  const [rowDone, columnDone, seen] = [new Uint8Array(rows), new Uint8Array(columns), new Uint8Array(values.length)];
+  const {board} = candidate;
+  const {rows, columns} = board;
+  const [rowDone, columnDone, seen] =
+      [new Uint8Array(rows), new Uint8Array(columns), new Uint8Array(values.length)];
   const found = [];
   for (let first = 0; first < values.length; first++) {
     if (!values[first] || seen[first]) continue;
@@ -144,12 +158,20 @@ export function witnessesOf(candidate, values, isMask) {
     };
     for (let at = 0; at < part.length; at++) {
       const [row, column] = [Math.floor(part[at] / columns), part[at] % columns];
-      if (!rowDone[row]) for (let c = 0; c < columns; c++) take(row * columns + c);
-      if (!columnDone[column]) for (let r = 0; r < rows; r++) take(r * columns + column);
+      if (!rowDone[row])
+        for (let c = 0; c < columns; c++) take(row * columns + c);
+      if (!columnDone[column])
+        for (let r = 0; r < rows; r++) take(r * columns + column);
       rowDone[row] = 1;
       columnDone[column] = 1;
     }
-    found.push(new Witness(board, part, part.map((index) => (isMask ? values[index] : values[index] - 1)), [...candidate.codes], isMask));
+    found.push(new Witness(
+        board,
+        part,
+        part.map((index) => (isMask ? values[index] : values[index] - 1)),
+        [...candidate.codes],
+        isMask
+    ));
   }
   return found;
 }

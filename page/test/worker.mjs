@@ -1,20 +1,33 @@
-// Workers for tests in node: what the page's worker does, over the real module, in the same thread but answering later, as a
-// worker does. The module is the file WASM, or what `web/build` left in web/out; `hasModule` says whether there is one.
+// Workers for tests in node: what the page's worker does, over the real module, in the same thread
+// but answering later, as a worker does. The module is the file WASM, or what `web/build` left in
+// web/out; `hasModule` says whether there is one.
 import './limits.mjs';
-import { existsSync, readFileSync } from 'node:fs';
-import { fileURLToPath } from 'node:url';
-import { load } from '../../web/nonobench.mjs';
-import { serve } from '../engine/serve.js';
+import {existsSync, readFileSync} from 'node:fs';
+import {fileURLToPath} from 'node:url';
+import {load} from '../../web/nonobench.mjs';
+import {serve} from '../engine/serve.js';
 
-export const moduleFile = process.env.WASM ?? fileURLToPath(new URL('../../web/out/nonobench.wasm', import.meta.url));
+export const moduleFile =
+    process.env.WASM ?? fileURLToPath(new URL('../../web/out/nonobench.wasm', import.meta.url));
 export const hasModule = existsSync(moduleFile);
-export const needsModule = { skip: hasModule ? false : `no module at ${moduleFile}: set WASM` };
+export const needsModule = {
+  skip: hasModule ? false : `no module at ${moduleFile}: set WASM`
+};
 const bytes = hasModule ? readFileSync(moduleFile) : null;
 
-/** The line in which the page speaks, in place of the browser's: its `text` and `dataset.kind` are what was said last. */
+/**
+ * The line in which the page speaks, in place of the browser's: its `text` and `dataset.kind` are
+ * what was said last.
+ */
 export function saidLine() {
-  const line = { dataset: {}, text: '', replaceChildren(text) { line.text = text; } };
-  globalThis.document = { getElementById: (id) => (id === 'said' ? line : null) };
+  const line = {
+    dataset: {},
+    text: '',
+    replaceChildren(text) {
+      line.text = text;
+    }
+  };
+  globalThis.document = {getElementById: (id) => (id === 'said' ? line : null)};
   return line;
 }
 
@@ -22,22 +35,32 @@ export function saidLine() {
 export const engine = () => load(bytes);
 
 /**
- * Makes what stands for `new Worker(..)`; `made` gets each of them, `fails` says at which texts a worker ends by itself, and `told`
- * makes another text of what the engine tells.
+ * Makes what stands for `new Worker(..)`; `made` gets each of them, `fails` says at which texts a
+ * worker ends by itself, and `told` makes another text of what the engine tells.
  */
-export function workers({ fails = (text, worker) => false, made = [], told = (text) => text } = {}) {
+export function workers({fails = (text, worker) => false, made = [], told = (text) => text} = {}) {
   return () => {
-    const heard = (data) => (typeof data.ok === 'string' ? { ...data, ok: told(data.ok) } : data);
-    const scope = { postMessage: (data) => setImmediate(() => !worker.isEnded && worker.onmessage({ data: heard(data) })) };
+    const heard = (data) => (typeof data.ok === 'string' ? {...data, ok: told(data.ok)} : data);
+    const scope = {
+      postMessage: (data) =>
+          setImmediate(() => !worker.isEnded && worker.onmessage({data: heard(data)}))
+    };
     serve(scope, () => engine());
     const worker = {
-      isEnded: false, said: [], onmessage: null, onerror: null,
+      isEnded: false,
+      said: [],
+      onmessage: null,
+      onerror: null,
       postMessage(data) {
         if (data.call === 'say') worker.said.push(data.lines);
-        if (data.call === 'say' && fails(data.lines, worker)) setImmediate(() => worker.onerror({ message: 'out of memory' }));
-        else setImmediate(() => !worker.isEnded && scope.onmessage({ data }));
+        if (data.call === 'say' && fails(data.lines, worker))
+          setImmediate(() => worker.onerror({message: 'out of memory'}));
+        else
+          setImmediate(() => !worker.isEnded && scope.onmessage({data}));
       },
-      terminate() { worker.isEnded = true; },
+      terminate() {
+        worker.isEnded = true;
+      },
     };
     made.push(worker);
     return worker;

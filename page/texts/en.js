@@ -4,7 +4,8 @@ export const EN = /** @type {const} */ ({
   // ---- base
   'base.by': '{columns} by {rows}',
   // ---- document
-  'document.hues': 'white, black, grey, red, maroon, brown, beige, tan, salmon, orange, gold, yellow, khaki, olive, lime, green, turquoise, teal, cyan, blue, navy, purple, lavender, magenta, pink',
+  'document.hues':
+      'white, black, grey, red, maroon, brown, beige, tan, salmon, orange, gold, yellow, khaki, olive, lime, green, turquoise, teal, cyan, blue, navy, purple, lavender, magenta, pink',
   'document.light': 'light {name}',
   'document.dark': 'dark {name}',
   'document.veryLight': 'very light {name}',
@@ -20,16 +21,19 @@ export const EN = /** @type {const} */ ({
   'document.givenCellLiesOutside': 'A given cell lies outside the picture.',
   'document.lockedCellLiesOutside': 'A locked cell lies outside the picture.',
   // ---- formats
-  'formats.picturesByteNoNumber': "The picture's {what} at byte {from} is not a number.",
+  'formats.picturesByteNoNumber': 'The picture\'s {what} at byte {from} is not a number.',
   'formats.pictureEndsBefore': 'The picture ends before its {what}.',
   'formats.pictureNoPixels': 'The picture has no pixels.',
-  'formats.picturePixelsMostSide': 'The picture is {width} by {height} pixels; the page reads at most {most} a side.',
+  'formats.picturePixelsMostSide':
+      'The picture is {width} by {height} pixels; the page reads at most {most} a side.',
   'formats.width': 'width',
   'formats.height': 'height',
   'formats.maxval': 'value of full brightness',
   'formats.samples': 'samples',
-  'formats.picturesMaxvalNotFrom': "The picture's value of full brightness is not from 1 to 65,535.",
-  'formats.sampleAboveMaxval': 'A sample is {sample}, above {maxval}, the value of full brightness.',
+  'formats.picturesMaxvalNotFrom':
+      'The picture\'s value of full brightness is not from 1 to 65,535.',
+  'formats.sampleAboveMaxval':
+      'A sample is {sample}, above {maxval}, the value of full brightness.',
   'formats.lineNoGiven': 'line {line} is not “given ROW COLUMN”',
   'formats.givenOutside': 'row {row}, column {column} is outside the picture',
   'formats.givenTwice': 'line {line} names a cell for the second time',
@@ -47,16 +51,23 @@ export const EN = /** @type {const} */ ({
   'formats.cluePuzzleNoNumber': 'A clue of the puzzle is not a number.',
   'formats.xmlNoPuzzleRows': 'The XML has no puzzle of rows and columns.',
   'formats.xmlTextsTooLong': 'The texts of the XML are too long.',
-  'formats.givenCellAnotherColour': 'A given cell has a different colour from that of the solution.',
-  'formats.lockedCellAnotherColour': 'A locked cell has a different colour from that of the solution.',
-  'formats.backgroundPuzzleColourDoes': 'The background of the puzzle is a colour that it does not have.',
-  'formats.solutionCellNoColour': "The solution has a cell '{value}', which is not a colour of the puzzle.",
+  'formats.givenCellAnotherColour':
+      'A given cell has a different colour from that of the solution.',
+  'formats.lockedCellAnotherColour':
+      'A locked cell has a different colour from that of the solution.',
+  'formats.backgroundPuzzleColourDoes':
+      'The background of the puzzle is a colour that it does not have.',
+  'formats.solutionCellNoColour':
+      'The solution has a cell \'{value}\', which is not a colour of the puzzle.',
   'formats.cluesRowsNotThose': 'The clues of the rows are not those of the solution.',
   'formats.cluesColumnsNotThose': 'The clues of the columns are not those of the solution.',
-  'formats.savedCellsAnotherSize': 'The saved cells have a different size from that of the solution.',
+  'formats.savedCellsAnotherSize':
+      'The saved cells have a different size from that of the solution.',
   'formats.puzzleNeitherSolutionNor': 'The puzzle has neither a solution nor all clues.',
-  'formats.puzzleCluesSeveralColours': 'The puzzle has clues in several colours, but no solution, which the page needs to open it.',
-  'formats.cluesNoColour': 'The clues of the puzzle are in the colour of its background, or in one that it does not have.',
+  'formats.puzzleCluesSeveralColours':
+      'The puzzle has clues in several colours, but no solution, which the page needs to open it.',
+  'formats.cluesNoColour':
+      'The clues of the puzzle are in the colour of its background, or in one that it does not have.',
   'formats.givensNoSolution': 'The puzzle has givens or locked cells, but no solution.',
   'formats.xmlNotReadLine': 'The XML cannot be read: {what}, in line {line}.',
   'formats.noEnd': '{what} has no end',
@@ -105,25 +116,36 @@ export const EN = /** @type {const} */ ({
   'view.help': 'Help',
   'view.cancel': 'Cancel',
   'view.drawOpenPicture': 'Draw or open a picture.',
-  'view.chooseColourDragPencil': 'Choose a colour and drag with the pencil. Two fingers move the view, and pinching zooms. An image becomes a puzzle when you open it or drop it on the page: the dialog shows its verdict while you choose size and colours.',
+  'view.chooseColourDragPencil':
+      'Choose a colour and drag with the pencil. Two fingers move the view, and pinching zooms. An image becomes a puzzle when you open it or drop it on the page: the dialog shows its verdict while you choose size and colours.',
   'view.drawMoreQuickly': 'Draw more quickly.',
-  'view.symmetryBelowToolsWand': 'With a symmetry chosen below them (m), the tools also paint the mirror image (left to right, top to bottom, or both) or the quarter turns. The wand (a) selects connected cells; the Edit menu fills, outlines and shadows them. “Trace an image” in the View menu shows an image where nothing is painted yet.',
+  'view.symmetryBelowToolsWand':
+      'With a symmetry chosen below them (m), the tools also paint the mirror image (left to right, top to bottom, or both) or the quarter turns. The wand (a) selects connected cells; the Edit menu fills, outlines and shadows them. “Trace an image” in the View menu shows an image where nothing is painted yet.',
   'view.readVerdict': 'Read the verdict.',
-  'view.afterEveryStrokePanel': 'After every stroke the page says whether the clues have only one solution. ✓ Unique: no other picture has them. ≠ Ambiguous: another one does, and you can look at it (x). ? Undecided: the time ran out; choose a longer “Search time”.',
+  'view.afterEveryStrokePanel':
+      'After every stroke the page says whether the clues have only one solution. ✓ Unique: no other picture has them. ≠ Ambiguous: another one does, and you can look at it (x). ? Undecided: the time ran out; choose a longer “Search time”.',
   'view.findWeakSpot': 'Find the weak spot.',
-  'view.tourWeakSpot': 'Framed cells differ in the other picture. Hatched cells are not settled line by line (h shows them). The tool Why (w) explains any cell.',
+  'view.tourWeakSpot':
+      'Framed cells differ in the other picture. Hatched cells are not settled line by line (h shows them). The tool Why (w) explains any cell.',
   'view.tourFix': 'Fix it.',
-  'view.fixLooksCellRepaint': '“Fix it” looks for a few cells to repaint, to give, or some of both. Given cells have a diamond ◆ and are printed with the puzzle. “Easier or harder” looks for at most four cells to repaint, or one to give, that make the puzzle easy, medium or hard.',
+  'view.fixLooksCellRepaint':
+      '“Fix it” looks for a few cells to repaint, to give, or some of both. Given cells have a diamond ◆ and are printed with the puzzle. “Easier or harder” looks for at most four cells to repaint, or one to give, that make the puzzle easy, medium or hard.',
   'view.play': 'Play it.',
   'view.playMenuCheckShows': '“Play” in the Check menu shows the puzzle as a solver gets it.',
   'view.checkColours': 'Check the colours.',
-  'view.coloursColourBlindMenu': '“Colours for the colour-blind” in the Check menu names pairs that look alike to some. The Picture menu reads and saves palettes (GIMP, JASC, hexadecimal).',
+  'view.coloursColourBlindMenu':
+      '“Colours for the colour-blind” in the Check menu names pairs that look alike to some. The Picture menu reads and saves palettes (GIMP, JASC, hexadecimal).',
   'view.publish': 'Publish it.',
-  'view.menuFilePrintsExports': 'The File menu prints it, alone or with others as sheets for a book, and exports it: XML for puzzle sites, images, links, and a certificate. A puzzle is “Fit to publish” if it has one solution, is not blank, and has no given cell that it does not need and no colours that look alike. Its grade counts rounds, each over all rows and columns; the longest wait is the most lines looked at until one settles a cell.',
-  'view.certificateProvesYourPuzzle': 'A certificate proves that your puzzle has only one solution, with the given cells that the certificate names: publish these too. Whoever has the certificate need not trust this page: a small checker reads picture and certificate and follows each step.',
-  'view.exportFileExportCertificate': 'Choose “Puzzle site (zip)” in the File menu. It saves a zip: the picture (PPM), its certificate and, if there are any, the given cells and a background that is not white. A site checks them with “nonobench check --background R,G,B --givens FILE PICTURE CERT” (without what the zip does not have), or in its own program.',
-  'view.checkOneHereOpen': 'To check one here, open the picture and drop the certificate on the page. If you drop several pictures at once, each with its list of given cells and its background, you get a table of verdicts.',
-  'view.yourPicturesStayLibrary': 'Your pictures are in the library of this browser, with their undo. The browser may lose them, so save what matters to a file, or all of it by “Save all as a zip” on the start screen.',
+  'view.menuFilePrintsExports':
+      'The File menu prints it, alone or with others as sheets for a book, and exports it: XML for puzzle sites, images, links, and a certificate. A puzzle is “Fit to publish” if it has one solution, is not blank, and has no given cell that it does not need and no colours that look alike. Its grade counts rounds, each over all rows and columns; the longest wait is the most lines looked at until one settles a cell.',
+  'view.certificateProvesYourPuzzle':
+      'A certificate proves that your puzzle has only one solution, with the given cells that the certificate names: publish these too. Whoever has the certificate need not trust this page: a small checker reads picture and certificate and follows each step.',
+  'view.exportFileExportCertificate':
+      'Choose “Puzzle site (zip)” in the File menu. It saves a zip: the picture (PPM), its certificate and, if there are any, the given cells and a background that is not white. A site checks them with “nonobench check --background R,G,B --givens FILE PICTURE CERT” (without what the zip does not have), or in its own program.',
+  'view.checkOneHereOpen':
+      'To check one here, open the picture and drop the certificate on the page. If you drop several pictures at once, each with its list of given cells and its background, you get a table of verdicts.',
+  'view.yourPicturesStayLibrary':
+      'Your pictures are in the library of this browser, with their undo. The browser may lose them, so save what matters to a file, or all of it by “Save all as a zip” on the start screen.',
   'view.commit': ', commit {commit}',
   'view.runsAlone': 'It runs only in your browser, and sends nothing.',
   'view.madeGitsNamesThese': ' Made from {made}: git’s names for these folders.',
@@ -170,7 +192,8 @@ export const EN = /** @type {const} */ ({
   'view.place': 'Place',
   'view.rowsLetters': 'Rows of letters',
   'view.pasteText': 'Paste text',
-  'view.oneLineEachRow': 'One line for each row, one letter for each cell: a dot is the background, a to o are the colours.',
+  'view.oneLineEachRow':
+      'One line for each row, one letter for each cell: a dot is the background, a to o are the colours.',
   'view.paste': 'Paste',
   'view.theseNotRowsLetters': 'These are not rows of letters of this palette.',
   'view.mirrorLeftRight': 'Mirror left and right',
@@ -252,13 +275,17 @@ export const EN = /** @type {const} */ ({
   'view.bucket': 'Bucket',
   'view.fillsConnectedCellsOne': 'Fills connected cells of one colour.',
   'view.recolour': 'Recolour',
-  'view.turnsAllCellsColour': 'Turns all cells of the colour you point at into the chosen one; within a selection, only the cells in it.',
+  'view.turnsAllCellsColour':
+      'Turns all cells of the colour you point at into the chosen one; within a selection, only the cells in it.',
   'view.select': 'Select',
-  'view.dragSelectRectangleDrag': 'Drag to select a rectangle; drag it to move it. Enter places it, Escape cancels the move.',
+  'view.dragSelectRectangleDrag':
+      'Drag to select a rectangle; drag it to move it. Enter places it, Escape cancels the move.',
   'view.giveCells': 'Give cells',
-  'view.givenCellsPrintedPuzzle': 'Given cells are printed with the puzzle. Drag to give cells, or to take them back.',
+  'view.givenCellsPrintedPuzzle':
+      'Given cells are printed with the puzzle. Drag to give cells, or to take them back.',
   'view.lockCells': 'Lock cells',
-  'view.noRepairChangesLocked': 'No repair changes a locked cell. Drag to lock cells, or to unlock them.',
+  'view.noRepairChangesLocked':
+      'No repair changes a locked cell. Drag to lock cells, or to unlock them.',
   'view.why': 'Why',
   'view.pointCellSeeWhy': 'Point at a cell to see why it cannot have another colour.',
   'view.otherPictureGoBack': 'This is the other picture. Go back to your picture (x) to change it.',
@@ -294,7 +321,8 @@ export const EN = /** @type {const} */ ({
   'view.leftRightSame': 'left and right the same',
   'view.topBottomSame': 'top and bottom the same',
   'view.longerSearchTimeMay': 'A longer “Search time” may find some.',
-  'view.pictureTooLooseBolder': 'The picture is too sparse: a bolder threshold at import, or thicker lines, may help more.',
+  'view.pictureTooLooseBolder':
+      'The picture is too sparse: a bolder threshold at import, or thicker lines, may help more.',
   'view.fixTitle': 'Fix it',
   'view.aimTitle': 'Easier or harder',
   'view.until': 'Goal',
@@ -306,13 +334,15 @@ export const EN = /** @type {const} */ ({
   'view.lockAllButSelection': 'Lock all but the selection',
   'view.unlockAll': 'Unlock all',
   'view.selectPartMayChange': 'Select the part that may change first (s).',
-  'view.lockedCellsColoursCells': 'Locked: {cells|# cell|# cells}, {colours|# colour|# colours}. Lock cells with the tool Lock cells (k), and colours in the palette.',
+  'view.lockedCellsColoursCells':
+      'Locked: {cells|# cell|# cells}, {colours|# colour|# colours}. Lock cells with the tool Lock cells (k), and colours in the palette.',
   'view.lookingCellsGive': 'Looking for cells to give',
   'view.cellsSuffice': '{cells|# cell suffices|# cells suffice}',
   'view.stoppedBeforeThereCells': 'Stopped before enough cells were found.',
   'view.noCellsFoundTime': 'No cells were found in this time. {longer}',
   'view.noFewerDo': ': fewer are not enough',
-  'view.cellsGivenOneUndo': '{cells|# cell|# cells} given{isLeast}. One undo takes {cells|it|them} back.',
+  'view.cellsGivenOneUndo':
+      '{cells|# cell|# cells} given{isLeast}. One undo takes {cells|it|them} back.',
   'view.lookingRepairs': 'Looking for repairs',
   'view.cellsGuess': 'open cells {open} → {open2}',
   'view.otherSolutionsDifferCells': 'other solutions differ in {other}{cells|# cell|# cells}',
@@ -322,19 +352,26 @@ export const EN = /** @type {const} */ ({
   'view.noRepaintFound': 'No repaint was found{ended}.',
   'view.gradeThere': 'The grade is “{grade}” already. Choose another one.',
   'view.oneSolutionThere': 'The puzzle has one solution already.',
-  'view.noChangeForGrade': 'Neither a change of at most four cells nor a given cell was found that makes the grade “{grade}”.',
-  'view.otherwiseForGrade': 'Fewer or more colours, another size or another background may lead to it.',
+  'view.noChangeForGrade':
+      'Neither a change of at most four cells nor a given cell was found that makes the grade “{grade}”.',
+  'view.otherwiseForGrade':
+      'Fewer or more colours, another size or another background may lead to it.',
   'view.whatListedGivesCells': ' The proposals below also give cells.',
   'view.whatListedComesNearer': ' The changes below come closest.',
   'view.noneSmaller': ' No smaller one exists under these rules.',
-  'view.moreCellsPictureToo': ' More than {few} cells: the picture is too sparse, and a bolder threshold at import, or thicker lines, may help more.',
-  'view.proposalsFoundChooseOne': '{proposals|# proposal|# proposals} found.{least}{loose} Choose one to paint it; {see} to see it first.',
+  'view.moreCellsPictureToo':
+      ' More than {few} cells: the picture is too sparse, and a bolder threshold at import, or thicker lines, may help more.',
+  'view.proposalsFoundChooseOne':
+      '{proposals|# proposal|# proposals} found.{least}{loose} Choose one to paint it; {see} to see it first.',
   'view.pointToSee': 'point at one',
   'view.holdToSee': 'press and hold one',
   'view.andGiven': ' and {count} given',
-  'view.cellsRepaintedOneUndo': '{cells|# cell|# cells} repainted{more}. One undo takes {count|it|them} back.',
-  'view.roundsLinesLookedLongest': '{rounds|# round|# rounds}, {lines|# line|# lines} looked at, at most {wait|# line|# lines} until a cell is settled',
-  'view.cellsGuessSplitsDepth': '{open|# open cell|# open cells}, {splits|# split|# splits}, depth {depth}; {lines}',
+  'view.cellsRepaintedOneUndo':
+      '{cells|# cell|# cells} repainted{more}. One undo takes {count|it|them} back.',
+  'view.roundsLinesLookedLongest':
+      '{rounds|# round|# rounds}, {lines|# line|# lines} looked at, at most {wait|# line|# lines} until a cell is settled',
+  'view.cellsGuessSplitsDepth':
+      '{open|# open cell|# open cells}, {splits|# split|# splits}, depth {depth}; {lines}',
   'view.chosenColourName': 'The chosen colour by its name',
   'view.name123abc': 'name or #123abc',
   'view.noColourName': '“{text}” is not the name of a colour.',
@@ -348,10 +385,13 @@ export const EN = /** @type {const} */ ({
   'view.anotherColourNamed': 'Another colour is named “{name}”.',
   'view.meansSomethingElseXml': '“{sign}” means something else in XML.',
   'view.anotherColourSign': 'Another colour has the sign “{sign}”.',
-  'view.paletteColourAlreadyMake': 'The palette has this colour already. To make two colours one, use Merge.',
+  'view.paletteColourAlreadyMake':
+      'The palette has this colour already. To make two colours one, use Merge.',
   'view.mergeColour': 'Merge this colour',
-  'view.allCellsGetAnother': 'All cells of {colour} get another colour, and it is removed from the palette.',
-  'view.colourRemovedThoseAfter': 'The colour was removed; those after it have new letters. Undo brings it back.',
+  'view.allCellsGetAnother':
+      'All cells of {colour} get another colour, and it is removed from the palette.',
+  'view.colourRemovedThoseAfter':
+      'The colour was removed; those after it have new letters. Undo brings it back.',
   'view.backgroundStaysEveryPicture': 'The background stays: every picture has one.',
   'view.backgroundAlwaysComesFirst': 'The background always comes first.',
   'view.colourFirstOneAlready': 'This colour is the first one already.',
@@ -388,7 +428,8 @@ export const EN = /** @type {const} */ ({
   'view.allPlaces': 'All {places} places at once',
   'view.bothPlaces': 'Both places at once',
   'view.givesToo': 'With given cells, which are printed with the puzzle',
-  'view.onlyOneSolution': 'No small change was found after which lines alone solve it. These leave one solution.',
+  'view.onlyOneSolution':
+      'No small change was found after which lines alone solve it. These leave one solution.',
   'view.keepNextSearch': 'keep for the next search',
   'view.untilStopped': 'until stopped',
   'view.pictureAlone': 'the picture alone',
@@ -412,7 +453,8 @@ export const EN = /** @type {const} */ ({
   'view.searchTime': 'Search time',
   'view.stop': 'Stop',
   'view.less': 'Less',
-  'view.framedCellsDiffer': 'Framed cells differ: the corner has the colour of the picture that is not shown.',
+  'view.framedCellsDiffer':
+      'Framed cells differ: the corner has the colour of the picture that is not shown.',
   'view.noOtherPictureKnown': 'No other picture is known.',
   'view.hatchedCells': 'Hatched cells are not settled line by line.',
   'view.countDiffer': '{cells|# cell|# cells} differ{cells|s|}',
@@ -420,11 +462,13 @@ export const EN = /** @type {const} */ ({
   'view.andGivenCells': ' and the {cells|given cell|# given cells}',
   'view.blank': 'Blank',
   'view.nothingPainted': 'nothing is painted yet',
-  'view.blankOneSolution': 'Nothing is painted yet. These clues have one solution, the blank picture.',
+  'view.blankOneSolution':
+      'Nothing is painted yet. These clues have one solution, the blank picture.',
   'view.someNeedGuessing': '{open} of {count} cells {open|needs|need} more than line logic.',
   'view.lineLogicSolvesWithout': 'Line logic alone solves it.',
   'view.noOtherPictureThese': 'No other picture has these clues{with}. {open}',
-  'view.anotherPictureTheseClues': 'Another picture has these clues too. It differs in {cells|# cell|# cells}.',
+  'view.anotherPictureTheseClues':
+      'Another picture has these clues too. It differs in {cells|# cell|# cells}.',
   'view.searching': '… Searching',
   'view.noOtherPictureFound': 'No other picture found so far.',
   'view.withinS': 'within {secondsChosen} s',
@@ -438,8 +482,10 @@ export const EN = /** @type {const} */ ({
   'view.searchUntilStopped': 'Search until stopped',
   'view.searchS': 'Search for {seconds} s',
   'view.of': ' of {seconds}',
-  'view.thereNoCertificateAnother': 'There is no certificate, as the puzzle has a second solution. “Fix it” looks for changes that leave one.',
-  'view.noCertificateFoundWithin': 'No certificate was found within {secondsChosen} s. Choose a longer “Search time”.',
+  'view.thereNoCertificateAnother':
+      'There is no certificate, as the puzzle has a second solution. “Fix it” looks for changes that leave one.',
+  'view.noCertificateFoundWithin':
+      'No certificate was found within {secondsChosen} s. Choose a longer “Search time”.',
   'view.searchCertificateStopped': 'The search for a certificate was stopped.',
   'view.shown': 'Shown: {hatching}.',
   'view.searchAnotherPicture': 'Search for another picture',
@@ -448,7 +494,8 @@ export const EN = /** @type {const} */ ({
   'view.noTwoColoursLook': 'No two colours look alike.',
   'view.lookAlike': 'Look alike: {pairs}.',
   'view.wand': 'Wand',
-  'view.selectsConnectedCellsOne': 'Selects connected cells of one colour; with Shift, or if the Edit menu says so, it adds to the selection.',
+  'view.selectsConnectedCellsOne':
+      'Selects connected cells of one colour; with Shift, or if the Edit menu says so, it adds to the selection.',
   'view.selectAllCellsColour': 'Select all cells of the chosen colour',
   'view.wandAdds': 'Wand adds to the selection',
   'view.fillSelection': 'Fill the selection',
@@ -462,7 +509,8 @@ export const EN = /** @type {const} */ ({
   'view.topBottom': 'Top and bottom',
   'view.both': 'Both',
   'view.quarterTurns': 'Quarter turns',
-  'view.quarterTurnsNeedPicture': 'Quarter turns need a picture whose width and height are both even or both odd.',
+  'view.quarterTurnsNeedPicture':
+      'Quarter turns need a picture whose width and height are both even or both odd.',
   'view.coloursColourBlind': 'Colours for the colour-blind',
   'view.withoutRedCones': 'Without red cones (protanopia)',
   'view.withoutGreenCones': 'Without green cones (deuteranopia)',
@@ -491,7 +539,8 @@ export const EN = /** @type {const} */ ({
   'play.lineTellsMoreAgain': 'Which line helps; again: which cells; again: why',
   'play.startOver': 'Start over',
   'play.startedOver': 'All marks are wiped. Undo brings them back.',
-  'play.howTo': 'The numbers beside a row or column are its blocks, in their order. Between two of one colour, at least one cell is background; others may touch.\nChoose a colour and drag along a row or column. Where the first cell has it already, you wipe.\n× marks cells as background, just as the right mouse button or the key X does. You need not mark them.\n⌫ wipes marks.\nTwo fingers move the picture, and pinching zooms.\nA colour that hardly stands out from empty cells gets an edge. What is solved is shown without edges and crosses.\n“Check” shows which marks are wrong.\n“Hint” names a line that helps; again, its cells; again, why.\n“Start over” wipes all marks; “Undo” brings them back.\nYour marks stay in this browser until the puzzle is solved.',
+  'play.howTo':
+      'The numbers beside a row or column are its blocks, in their order. Between two of one colour, at least one cell is background; others may touch.\nChoose a colour and drag along a row or column. Where the first cell has it already, you wipe.\n× marks cells as background, just as the right mouse button or the key X does. You need not mark them.\n⌫ wipes marks.\nTwo fingers move the picture, and pinching zooms.\nA colour that hardly stands out from empty cells gets an edge. What is solved is shown without edges and crosses.\n“Check” shows which marks are wrong.\n“Hint” names a line that helps; again, its cells; again, why.\n“Start over” wipes all marks; “Undo” brings them back.\nYour marks stay in this browser until the puzzle is solved.',
   'play.walkThrough': 'Walk through',
   'play.showsSolution': 'This shows the solution, step by step. Your marks come back at the end.',
   'play.backPicture': 'Back to the picture',
@@ -510,24 +559,29 @@ export const EN = /** @type {const} */ ({
   'play.order': 'Order',
   'play.heatMap': 'Heat map',
   'play.solveYourself': 'Solve it yourself',
-  'play.suppose': 'More than line logic: {place} is {colour}. Any other colour there leads nowhere.',
+  'play.suppose':
+      'More than line logic: {place} is {colour}. Any other colour there leads nowhere.',
   'play.emptyPuzzle': ': the empty puzzle.',
   'play.soFar': ' so far',
   'play.stepOf': 'Step {at} of {count}{isWhole}{told}',
   'play.pause': 'Pause',
   'play.playSteps': 'Play',
-  'play.numberCellRoundFalls': 'The number in a cell is the round in which it is settled; ? needs more than line logic.',
+  'play.numberCellRoundFalls':
+      'The number in a cell is the round in which it is settled; ? needs more than line logic.',
   // ---- library
   'library.browsersStorageFull': 'The browser’s storage is full',
   'library.browsersStorageLate': 'The browser’s storage does not open',
   'library.browserKeepsNothingPage': 'This browser keeps nothing for this page',
   'library.browsersStorageDoesNot': 'The browser’s storage does not take it',
   'library.yourWorkTabAlone': '{why}: your work is only in this tab. Save it to a file (Ctrl+S).',
-  'library.pictureOpenAnotherTab': 'This picture is open in another tab. What you change here goes to a copy.',
+  'library.pictureOpenAnotherTab':
+      'This picture is open in another tab. What you change here goes to a copy.',
   'library.openAnotherPicture': 'Open another picture',
-  'library.notBeenSavedBrowser': '“{name}” has not been saved, and the browser does not keep it. It would be lost.',
+  'library.notBeenSavedBrowser':
+      '“{name}” has not been saved, and the browser does not keep it. It would be lost.',
   'library.open': 'Open',
-  'library.nothingSavedPrinted': 'Nothing was saved or printed, as “{name}” could not be opened: {fault}',
+  'library.nothingSavedPrinted':
+      'Nothing was saved or printed, as “{name}” could not be opened: {fault}',
   'library.pictureLibraryDamagedCould': 'This picture of the library is damaged or gone.',
   'library.widthHeightNotFrom': 'its width or height is not from 1 to {most}',
   'library.tooFewTooMany': 'it has too few or too many clues',
@@ -551,7 +605,8 @@ export const EN = /** @type {const} */ ({
   'library.description': 'its description',
   'library.solutionsDoNotFit': 'solutions that do not fit the picture any more',
   'library.notWritten': '{name} was not written ({message}).',
-  'library.savedWithoutXmlKeeps': '{file} saved, without {without}. “Save as” keeps all of it, in XML.',
+  'library.savedWithoutXmlKeeps':
+      '{file} saved, without {without}. “Save as” keeps all of it, in XML.',
   'library.saved': '{file} saved.{more}',
   'library.form': 'Format',
   'library.saveAs': 'Save as',
@@ -561,11 +616,13 @@ export const EN = /** @type {const} */ ({
   // ---- import
   'import.libraryNoPictures': 'The library has no pictures.',
   'import.onesLeftOut': '; {ones|# damaged one|# damaged ones} left out',
-  'import.picturesSavedNonobenchLibrary': '{pictures|# picture|# pictures} saved as “nonobench library.zip”{count}.',
+  'import.picturesSavedNonobenchLibrary':
+      '{pictures|# picture|# pictures} saved as “nonobench library.zip”{count}.',
   'import.picturesThereAlready': '{pictures|# picture|# pictures} there already',
   'import.filesNotRead': '{files|# file|# files} not read',
   'import.picturesNotTaken': '{pictures|# picture|# pictures} not added',
-  'import.picturesFromArchive': '“{name}”: {pictures|# picture|# pictures} added to the library{left}.',
+  'import.picturesFromArchive':
+      '“{name}”: {pictures|# picture|# pictures} added to the library{left}.',
   'import.addManyFiles': 'Add {files|# file|# files}?',
   'import.addManyPuzzles': 'Add {puzzles|# puzzle|# puzzles}?',
   'import.pictureGoesLibrary': 'Each picture in “{name}” goes to the library.',
@@ -576,19 +633,24 @@ export const EN = /** @type {const} */ ({
   'import.doesNotProvePicture': 'It does not prove this picture ({value}).',
   'import.faultNotCert': 'Line {line} is not that with which a certificate begins.',
   'import.faultBadLine': 'Its line {line} is no line of a certificate.',
-  'import.faultPlace': 'Its line {line} names a row, column or cell that this picture does not have.',
+  'import.faultPlace':
+      'Its line {line} names a row, column or cell that this picture does not have.',
   'import.faultNotDead': 'What its line {line} rules out is possible in this picture.',
-  'import.faultNotDone': 'At its line {line}, a cell may still have another colour than in this picture.',
+  'import.faultNotDone':
+      'At its line {line}, a cell may still have another colour than in this picture.',
   'import.faultEnded': 'It ends too early: its line {line} is missing.',
   'import.faultTrailing': 'Its line {line} stands behind its end.',
   'import.linesEndCrLf': 'Its lines end with CR LF, and must end with LF alone.',
   'import.isUtf16': 'It is UTF-16, and must be ASCII.',
-  'import.hasByteOrderMark': 'It begins with a byte order mark, and must begin with its first word.',
+  'import.hasByteOrderMark':
+      'It begins with a byte order mark, and must begin with its first word.',
   'import.givenCells': ' with its given cells',
   'import.provesPictureOnlySolution': 'It proves that this picture is the only solution{count}.',
-  'import.certificateOpenPictureFirst': '“{name}” is a certificate. Open its picture first, then drop it here to have it checked.',
+  'import.certificateOpenPictureFirst':
+      '“{name}” is a certificate. Open its picture first, then drop it here to have it checked.',
   'import.checking': 'Checking “{name}”',
-  'import.imageDragSelectPart': 'The image. Drag to select a part of it. A click, or arrow keys and Enter, keep a colour.',
+  'import.imageDragSelectPart':
+      'The image. Drag to select a part of it. A click, or arrow keys and Enter, keep a colour.',
   'import.turnImageIntoPuzzle': '{name}: turn the image into a puzzle',
   'import.createPuzzle': 'Create the puzzle',
   'import.madeFromImageVerdict': '“{name}” was made from the image.',
@@ -627,7 +689,8 @@ export const EN = /** @type {const} */ ({
   'import.contrast': 'Contrast',
   'import.dithering': 'Dithering',
   'import.removeSpecksUpSo': 'Largest speck to remove, in cells',
-  'import.cellsColoursBackground': '{columns} by {rows} cells, {colours|# colour|# colours} with the background',
+  'import.cellsColoursBackground':
+      '{columns} by {rows} cells, {colours|# colour|# colours} with the background',
   'import.palette': 'Palette',
   'import.replace': 'Replace with',
   'import.paletteFile': 'Palette file …',
@@ -649,29 +712,36 @@ export const EN = /** @type {const} */ ({
   'import.hexadecimalHex': 'Hexadecimal (.hex)',
   'import.paletteSaved': 'Palette saved as “{name}”.',
   'import.coloursOf': 'Colours of “{name}”',
-  'import.chooseColoursAddPicture': 'Choose colours to add to the picture. Or replace each colour of the picture by the nearest one that is here.',
+  'import.chooseColoursAddPicture':
+      'Choose colours to add to the picture. Or replace each colour of the picture by the nearest one that is here.',
   'import.addChosen': 'Add the chosen',
   'import.takeNearest': 'Take the nearest',
   'import.chooseColourFirst': 'Choose a colour first.',
   'import.paletteRoomColours': 'The palette has room for {colours|# more colour|# more colours}.',
   'import.fewerColoursPicture': 'It has fewer colours than the picture.',
-  'import.paletteOpenPictureFirst': '“{name}” is a palette. Open a picture first, then drop it here.',
+  'import.paletteOpenPictureFirst':
+      '“{name}” is a palette. Open a picture first, then drop it here.',
   'import.noPictureNoPuzzle': 'it is neither a picture nor a puzzle that this page reads',
   'import.size': 'Size',
   'import.verdict': 'Verdict',
   'import.grade': 'Grade',
-  'import.notPuzzleImageScaled': 'it is not a puzzle; open an image alone, to choose its size, colours and background',
+  'import.notPuzzleImageScaled':
+      'it is not a puzzle; open an image alone, to choose its size, colours and background',
   'import.given': '{cells|# cell|# cells} given',
   'import.ofAll': '{count} of {all}',
   'import.noPictureGoes': 'no picture here goes with it',
   'import.othersLeftOut': 'more than {most} puzzles: the others are left out',
-  'import.severalOfName': 'a folder or several files have its name, or that of a file that goes with it',
+  'import.severalOfName':
+      'a folder or several files have its name, or that of a file that goes with it',
   'import.otherBackground': 'its own background is not that of the file beside it',
-  'import.certificatesNotChecked': 'Certificates are not checked here: open the picture, and drop its certificate on the page.',
+  'import.certificatesNotChecked':
+      'Certificates are not checked here: open the picture, and drop its certificate on the page.',
   'import.picturesAdded': '{pictures|# picture|# pictures} added to the library.',
-  'import.picturesSavedNonobenchPuzzles': '{pictures|# picture|# pictures} saved as “nonobench puzzles.zip”, with a report.',
+  'import.picturesSavedNonobenchPuzzles':
+      '{pictures|# picture|# pictures} saved as “nonobench puzzles.zip”, with a report.',
   'import.files': '{files|# file|# files}',
-  'import.picturesJudgedRowOpens': '{pictures|# picture|# pictures} of {count} judged. A row opens its picture.',
+  'import.picturesJudgedRowOpens':
+      '{pictures|# picture|# pictures} of {count} judged. A row opens its picture.',
   'import.puzzles': '{puzzles|# puzzle|# puzzles}',
   'import.saveAllZip': 'Save all as a zip',
   'import.addLibrary': 'Add to the library',
@@ -686,15 +756,19 @@ export const EN = /** @type {const} */ ({
   'import.certificateSays': '“{name}”: {text}',
   'import.couldNotOpened': '{name} could not be opened: {fault}',
   'import.othersNotRead': '; {left} could not be read',
-  'import.firstPuzzlesOpenOthers': 'The first of {count} puzzles is open, and {others|# other|# others} went to the library{left}.',
+  'import.firstPuzzlesOpenOthers':
+      'The first of {count} puzzles is open, and {others|# other|# others} went to the library{left}.',
   'import.opening': 'Opening {name}',
   'import.searchingPictureTheseClues': 'Searching for a picture with these clues.',
-  'import.folderNotRead': 'This browser does not read folders for a page that was opened from a file. Select the files in the folder, and drop these.',
-  'import.picturePixelsMostAll': 'the picture is {width} by {height} pixels; the page reads at most {most} in all',
+  'import.folderNotRead':
+      'This browser does not read folders for a page that was opened from a file. Select the files in the folder, and drop these.',
+  'import.picturePixelsMostAll':
+      'the picture is {width} by {height} pixels; the page reads at most {most} in all',
   'import.sizeNotToldBeginning': 'its beginning does not say its size',
   'import.browserDoesNotRead': 'the browser does not read this picture',
   'import.saveAsPng': 'browsers do not draw {kind} pictures: save it as PNG or JPEG, and open that',
-  'import.drawingMoves': 'the drawing moves, or has HTML or other documents in it: save it as PNG, and open that',
+  'import.drawingMoves':
+      'the drawing moves, or has HTML or other documents in it: save it as PNG, and open that',
   'import.traceImage': 'Trace an image …',
   'import.removeTracedImage': 'Remove the traced image',
   'import.imageTrace': 'Image to trace',
@@ -702,15 +776,18 @@ export const EN = /** @type {const} */ ({
   'import.dragImageMoveArrow': 'Drag the image, or move it with the arrow keys',
   'import.opacity': 'Opacity',
   'import.remove': 'Remove',
-  'import.imageShownWherePicture': 'The image is shown where the picture is empty. It is not part of the picture, and is not saved.',
+  'import.imageShownWherePicture':
+      'The image is shown where the picture is empty. It is not part of the picture, and is not saved.',
   'import.noImage': 'it is not an image',
   // ---- export
-  'export.sheetRowsColumns': 'Sheet {at} of {count}: rows {top} to {bottom}, columns {left} to {right}',
+  'export.sheetRowsColumns':
+      'Sheet {at} of {count}: rows {top} to {bottom}, columns {left} to {right}',
   'export.solution': '{title}: solution',
   'export.background': 'background: {names}',
   'export.by': 'by {author}',
   'export.browserMadeNoPng': 'The browser could not make a PNG of it.',
-  'export.coloursPuzzleCannotTold': '{near} In these colours, solvers cannot tell the clues apart: change a colour, or print the puzzle with letters.',
+  'export.coloursPuzzleCannotTold':
+      '{near} In these colours, solvers cannot tell the clues apart: change a colour, or print the puzzle with letters.',
   'export.title': 'Title',
   'export.sheetTitle': 'Title on the sheet',
   'export.author': 'Author',
@@ -721,7 +798,8 @@ export const EN = /** @type {const} */ ({
   'export.putGradeIntoDescription': 'Put the grade into the description',
   'export.gradeLine': 'Grade: {word}',
   'export.aboutPuzzle': 'Title, author and texts',
-  'export.otherPictureOpened': 'Another picture was opened meanwhile. What you had begun with the earlier one was dropped.',
+  'export.otherPictureOpened':
+      'Another picture was opened meanwhile. What you had begun with the earlier one was dropped.',
   'export.titleAuthor': 'Title and author …',
   'export.webpbnXml': 'Web Paint-by-Number (XML)',
   'export.pngPixelCell': 'Picture (PNG), one pixel per cell',
@@ -729,9 +807,11 @@ export const EN = /** @type {const} */ ({
   'export.nonTwoColours': '.non (two colours)',
   'export.pathGif': 'Solving path (GIF)',
   'export.pathNeedsOne': 'Only a puzzle with one solution has a solving path to its end.',
-  'export.pathNotWhole': '{name}-path.gif was not saved, as the search for the solving path did not come to its end.',
+  'export.pathNotWhole':
+      '{name}-path.gif was not saved, as the search for the solving path did not come to its end.',
   'export.siteZip': 'Puzzle site (zip)',
-  'export.siteServes': 'For a site that publishes your puzzle: with it, the site checks that there is only one solution.',
+  'export.siteServes':
+      'For a site that publishes your puzzle: with it, the site checks that there is only one solution.',
   'export.export': 'Export',
   'export.saveExport': 'Save and export',
   'export.savedUnfit': ' But the puzzle is not fit to be published: {why}.',
@@ -741,7 +821,8 @@ export const EN = /** @type {const} */ ({
   'export.sixByNine': '6 × 9 inches',
   'export.letters': 'Letters',
   'export.signs': 'Symbols',
-  'export.anotherPictureSameClues': 'Another picture has the same clues. “Fix it” in the Check menu looks for changes that leave one solution.',
+  'export.anotherPictureSameClues':
+      'Another picture has the same clues. “Fix it” in the Check menu looks for changes that leave one solution.',
   'export.notKnownYetWhether': 'It is not known yet whether this picture is the only solution.',
   'export.sheetsSavedPrintZip': '{sheets|# sheet|# sheets} saved as “{name}-print.zip”.',
   'export.othersLibrary': 'With others from the library, in the order of their names ({count})',
@@ -754,23 +835,30 @@ export const EN = /** @type {const} */ ({
   'export.marginMm': 'Margin in mm',
   'export.puzzlesSheet': 'Puzzles on a sheet',
   'export.coloursShown': 'Show colours as',
-  'export.goesOverSheetsMap': 'It takes {sheets|# sheet|# sheets}, with a map of the sheets on each.',
-  'export.mostSheets': 'These are {sheets|# sheet|# sheets}; at most {most} are printed or saved at once. Choose fewer puzzles, or more of them on a sheet.',
+  'export.goesOverSheetsMap':
+      'It takes {sheets|# sheet|# sheets}, with a map of the sheets on each.',
+  'export.mostSheets':
+      'These are {sheets|# sheet|# sheets}; at most {most} are printed or saved at once. Choose fewer puzzles, or more of them on a sheet.',
   'export.soSheetLettersSigns': '{near} So the sheet has letters or symbols.',
   'export.tintsAlike': 'The clues of {pair} look alike on paper: “Letters” tells them apart.',
   'export.print': 'Print',
   'export.saveSvg': 'Save as SVG',
   'export.saveSvgs': 'Save the sheets as SVG (zip)',
   'export.printLettersSigns': '“{name}”: {near} Print it with letters or symbols.',
-  'export.smallestNumbersMmHigh': 'The smallest numbers are {value} mm high: larger paper, fewer puzzles on a sheet, or colours in place of letters and symbols make them larger.',
-  'export.smallestCellsMmWide': 'The smallest cells are {value} mm wide: larger paper or fewer puzzles on a sheet make them larger.',
+  'export.smallestNumbersMmHigh':
+      'The smallest numbers are {value} mm high: larger paper, fewer puzzles on a sheet, or colours in place of letters and symbols make them larger.',
+  'export.smallestCellsMmWide':
+      'The smallest cells are {value} mm wide: larger paper or fewer puzzles on a sheet make them larger.',
   'export.solve': 'to solve it',
   'export.edit': 'to edit it',
   'export.htmlSite': 'as HTML for a site',
   'export.htmlHolds': 'The HTML shows the puzzle in a frame on your site, to be solved there.',
-  'export.pageOpenedFromFile': 'This page was opened from a file. Enter the address at which you publish it, or the link works only on this computer.',
-  'export.linkHoldsSolutionThough': 'The link holds the solution, though the player does not show it.',
-  'export.linkCharactersSomePrograms': 'The link has {count} characters. Some programs cut links above {long}.',
+  'export.pageOpenedFromFile':
+      'This page was opened from a file. Enter the address at which you publish it, or the link works only on this computer.',
+  'export.linkHoldsSolutionThough':
+      'The link holds the solution, though the player does not show it.',
+  'export.linkCharactersSomePrograms':
+      'The link has {count} characters. Some programs cut links above {long}.',
   'export.browserDidNotCopy': 'The browser did not copy it. It is selected: press Ctrl+C.',
   'export.linkCopied': 'The link was copied.',
   'export.linkCopiedHere': 'The link was copied. It works only on this computer.',
@@ -781,7 +869,8 @@ export const EN = /** @type {const} */ ({
   'export.share': 'Share',
   'export.copy': 'Copy',
   'export.shareLink': 'Share a link …',
-  'export.shareHolds': 'Holds the whole puzzle in one address, to be solved or edited, or as HTML for a site.',
+  'export.shareHolds':
+      'Holds the whole puzzle in one address, to be solved or edited, or as HTML for a site.',
   // ---- start
   'start.justNow': 'just now',
   'start.newestFirst': 'Newest first',
@@ -794,7 +883,8 @@ export const EN = /** @type {const} */ ({
   'start.showPictures': 'Show {pictures|# more picture|# more pictures}',
   'start.noPictureMatches': 'No picture matches “{wanted}”.',
   'start.browserRoomMore': '; the browser has room for {max} more',
-  'start.picturesBrowserTheyStay': '{pictures|# picture|# pictures} in this browser, {bytes}{room}. The browser may lose them: save what matters to a file.',
+  'start.picturesBrowserTheyStay':
+      '{pictures|# picture|# pictures} in this browser, {bytes}{room}. The browser may lose them: save what matters to a file.',
   'start.openHere': 'open here',
   'start.notFile': 'not in a file',
   'start.moreFor': 'More for {name}',
@@ -805,17 +895,21 @@ export const EN = /** @type {const} */ ({
   'start.deleted': '{what} deleted.',
   'start.broughtBack': '{what} brought back.',
   'start.openElsewhere': 'What is open in another tab was not deleted.',
-  'start.browserNoRoomLeft': 'The browser has no room left for this page. Choose the pictures that may be deleted, or close this and save your work to a file.',
-  'start.picturesNotSaved': '{pictures|# chosen picture|# chosen pictures} {pictures|has|have} not been saved. Deleting cannot be undone.',
+  'start.browserNoRoomLeft':
+      'The browser has no room left for this page. Choose the pictures that may be deleted, or close this and save your work to a file.',
+  'start.picturesNotSaved':
+      '{pictures|# chosen picture|# chosen pictures} {pictures|has|have} not been saved. Deleting cannot be undone.',
   'start.chooseLeastOnePicture': 'Choose at least one picture.',
   'start.makeRoom': 'Make room',
   'start.new': 'New',
   'start.startPainting': 'Start painting',
   'start.newName': 'picture',
   'start.openPicture': 'Open a picture',
-  'start.dropFileHerePaste': 'Drop files here, paste a picture (Ctrl+V), or choose files. Several are listed in a table with their verdicts.',
+  'start.dropFileHerePaste':
+      'Drop files here, paste a picture (Ctrl+V), or choose files. Several are listed in a table with their verdicts.',
   'start.tapToChoose': 'Tap “Choose files …”. Several are listed in a table with their verdicts.',
-  'start.pngJpegGifWebp': 'An image (PNG, JPEG, GIF, WebP, BMP, AVIF, SVG) becomes a puzzle. PPM, .non and Web Paint-by-Number’s XML open as they are. The pictures of a saved zip are added to the library, and a certificate is checked against the open picture.',
+  'start.pngJpegGifWebp':
+      'An image (PNG, JPEG, GIF, WebP, BMP, AVIF, SVG) becomes a puzzle. PPM, .non and Web Paint-by-Number’s XML open as they are. The pictures of a saved zip are added to the library, and a certificate is checked against the open picture.',
   'start.chooseFile': 'Choose files …',
   'start.balloon': 'balloon',
   'start.heart': 'heart',
@@ -824,18 +918,22 @@ export const EN = /** @type {const} */ ({
   'start.mendExample': 'two solutions, to be mended',
   'start.examples': 'Examples',
   'start.back': 'Back to {name}',
-  'start.drawPictureOpenOne': 'Draw a picture or open one. You see its clues, and whether they have only one solution. Then export the puzzle, or print it.',
+  'start.drawPictureOpenOne':
+      'Draw a picture or open one. You see its clues, and whether they have only one solution. Then export the puzzle, or print it.',
   'start.newOpen': 'New or open …',
   'start.openFile': 'Open files …',
   'start.linkCouldNotOpened': 'The link could not be opened: {fault}',
   'start.dialogCloses': 'The open dialog closes, and what was done in it is lost.',
   'start.changeLanguage': 'Change the language',
-  'start.languageLoses': 'The page restarts in the other language. Your picture stays, with its undo; the image to trace is lost.',
-  'start.languageNotKept': 'The browser does not keep your picture, so the page stays as it is. Save the picture to a file and reload the page: it has the other language then.',
+  'start.languageLoses':
+      'The page restarts in the other language. Your picture stays, with its undo; the image to trace is lost.',
+  'start.languageNotKept':
+      'The browser does not keep your picture, so the page stays as it is. Save the picture to a file and reload the page: it has the other language then.',
   // ---- main
   'main.fit': 'Fit',
   'main.engineRestartedNothingLost': 'The engine was restarted. Nothing was lost.',
-  'main.engineCouldNotStarted': 'The engine could not be started ({text}). Save the picture and reload the page.',
+  'main.engineCouldNotStarted':
+      'The engine could not be started ({text}). Save the picture and reload the page.',
   'main.menus': 'Menus',
   'main.historyView': 'History and view',
   'main.start': 'Start',

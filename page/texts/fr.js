@@ -1,10 +1,12 @@
-// Les textes français de la page, sous les mêmes noms et avec les mêmes places que dans ./en.js : the French texts of the page.
+// Les textes français de la page, sous les mêmes noms et avec les mêmes places que dans ./en.js :
+// the French texts of the page.
 
 export const FR = /** @type {const} */ ({
   // ---- base
   'base.by': '{columns} × {rows}',
   // ---- document
-  'document.hues': 'blanc, noir, gris, rouge, bordeaux, brun, beige, sable, saumon, orange, doré, jaune, kaki, olive, vert citron, vert, turquoise, bleu canard, cyan, bleu, bleu marine, violet, lavande, magenta, rose',
+  'document.hues':
+      'blanc, noir, gris, rouge, bordeaux, brun, beige, sable, saumon, orange, doré, jaune, kaki, olive, vert citron, vert, turquoise, bleu canard, cyan, bleu, bleu marine, violet, lavande, magenta, rose',
   'document.light': '{name} clair',
   'document.dark': '{name} foncé',
   'document.veryLight': '{name} très clair',
@@ -16,20 +18,24 @@ export const FR = /** @type {const} */ ({
   'document.puzzleMostColours': 'Une grille a au plus {most} couleurs.',
   'document.colourPuzzleNotThree': 'Une couleur de la grille n’a pas trois valeurs.',
   'document.twoColoursPuzzleSame': 'Deux couleurs de la grille sont identiques.',
-  'document.rowsPuzzleDoNot': 'Les lignes de la grille ne correspondent pas à sa taille et à ses couleurs.',
+  'document.rowsPuzzleDoNot':
+      'Les lignes de la grille ne correspondent pas à sa taille et à ses couleurs.',
   'document.givenCellLiesOutside': 'Une case donnée se trouve hors de l’image.',
   'document.lockedCellLiesOutside': 'Une case verrouillée se trouve hors de l’image.',
   // ---- formats
   'formats.picturesByteNoNumber': 'À l’octet {from}, {what} de l’image : ce n’est pas un nombre.',
   'formats.pictureEndsBefore': 'L’image s’arrête avant ceci : {what}.',
   'formats.pictureNoPixels': 'L’image n’a aucun pixel.',
-  'formats.picturePixelsMostSide': 'L’image a {width} × {height} pixels ; la page en lit au plus {most} par côté.',
+  'formats.picturePixelsMostSide':
+      'L’image a {width} × {height} pixels ; la page en lit au plus {most} par côté.',
   'formats.width': 'largeur',
   'formats.height': 'hauteur',
   'formats.maxval': 'valeur de pleine luminosité',
   'formats.samples': 'valeurs',
-  'formats.picturesMaxvalNotFrom': 'La valeur de pleine luminosité de l’image n’est pas entre 1 et 65 535.',
-  'formats.sampleAboveMaxval': 'Une valeur est {sample}, plus que {maxval}, la valeur de pleine luminosité.',
+  'formats.picturesMaxvalNotFrom':
+      'La valeur de pleine luminosité de l’image n’est pas entre 1 et 65 535.',
+  'formats.sampleAboveMaxval':
+      'Une valeur est {sample}, plus que {maxval}, la valeur de pleine luminosité.',
   'formats.lineNoGiven': 'la ligne {line} n’est pas « given ROW COLUMN »',
   'formats.givenOutside': 'la ligne {row}, colonne {column} est hors de l’image',
   'formats.givenTwice': 'la ligne {line} nomme une case pour la deuxième fois',
@@ -42,22 +48,28 @@ export const FR = /** @type {const} */ ({
   'formats.cellSolutionNoEnd': 'Une case de la solution n’a pas de fin.',
   'formats.solutionLarger': 'La solution dépasse {most} × {most}.',
   'formats.solutionNoPicture': 'La solution n’est pas une image.',
-  'formats.colourPuzzleNotThree': 'Une couleur de la grille n’a pas trois ou six chiffres hexadécimaux.',
-  'formats.colourPuzzleDeclaredTwice': 'Une couleur ou un signe de la grille est déclaré deux fois.',
+  'formats.colourPuzzleNotThree':
+      'Une couleur de la grille n’a pas trois ou six chiffres hexadécimaux.',
+  'formats.colourPuzzleDeclaredTwice':
+      'Une couleur ou un signe de la grille est déclaré deux fois.',
   'formats.cluePuzzleNoNumber': 'Un indice de la grille n’est pas un nombre.',
   'formats.xmlNoPuzzleRows': 'Le XML ne contient pas de grille de lignes et de colonnes.',
   'formats.xmlTextsTooLong': 'Les textes du XML sont trop longs.',
   'formats.givenCellAnotherColour': 'Une case donnée n’a pas la couleur de la solution.',
   'formats.lockedCellAnotherColour': 'Une case verrouillée n’a pas la couleur de la solution.',
   'formats.backgroundPuzzleColourDoes': 'Le fond de la grille est une couleur qu’elle n’a pas.',
-  'formats.solutionCellNoColour': 'La solution a une case « {value} », qui n’est pas une couleur de la grille.',
+  'formats.solutionCellNoColour':
+      'La solution a une case « {value} », qui n’est pas une couleur de la grille.',
   'formats.cluesRowsNotThose': 'Les indices des lignes ne sont pas ceux de la solution.',
   'formats.cluesColumnsNotThose': 'Les indices des colonnes ne sont pas ceux de la solution.',
   'formats.savedCellsAnotherSize': 'Les cases enregistrées n’ont pas la taille de la solution.',
   'formats.puzzleNeitherSolutionNor': 'La grille n’a ni solution ni indices complets.',
-  'formats.puzzleCluesSeveralColours': 'La grille a des indices en plusieurs couleurs, mais pas de solution ; la page en a besoin pour l’ouvrir.',
-  'formats.cluesNoColour': 'Les indices de la grille sont dans la couleur de son fond, ou dans une qu’elle n’a pas.',
-  'formats.givensNoSolution': 'La grille a des cases données ou verrouillées, mais pas de solution.',
+  'formats.puzzleCluesSeveralColours':
+      'La grille a des indices en plusieurs couleurs, mais pas de solution ; la page en a besoin pour l’ouvrir.',
+  'formats.cluesNoColour':
+      'Les indices de la grille sont dans la couleur de son fond, ou dans une qu’elle n’a pas.',
+  'formats.givensNoSolution':
+      'La grille a des cases données ou verrouillées, mais pas de solution.',
   'formats.xmlNotReadLine': 'Le XML est illisible : {what}, ligne {line}.',
   'formats.noEnd': '{what} n’a pas de fin',
   'formats.nameMissing': 'il manque un nom',
@@ -105,24 +117,35 @@ export const FR = /** @type {const} */ ({
   'view.help': 'Aide',
   'view.cancel': 'Annuler',
   'view.drawOpenPicture': 'Dessinez ou ouvrez une image.',
-  'view.chooseColourDragPencil': 'Choisissez une couleur et faites glisser le crayon. Deux doigts déplacent la vue, et les écarter ou les rapprocher zoome. Une photo ou un dessin devient une grille quand vous l’ouvrez ou le déposez sur la page : la fenêtre montre le verdict pendant que vous choisissez taille et couleurs.',
+  'view.chooseColourDragPencil':
+      'Choisissez une couleur et faites glisser le crayon. Deux doigts déplacent la vue, et les écarter ou les rapprocher zoome. Une photo ou un dessin devient une grille quand vous l’ouvrez ou le déposez sur la page : la fenêtre montre le verdict pendant que vous choisissez taille et couleurs.',
   'view.drawMoreQuickly': 'Dessinez plus vite.',
-  'view.symmetryBelowToolsWand': 'Avec une symétrie choisie sous les outils (m), ils peignent aussi l’image miroir (gauche et droite, haut et bas, ou les deux) ou les quatre quarts de tour. La baguette (a) sélectionne des cases voisines ; le menu Édition les remplit, en trace le contour ou l’ombre. « Calquer une image » dans le menu Affichage montre une image là où rien n’est encore peint.',
+  'view.symmetryBelowToolsWand':
+      'Avec une symétrie choisie sous les outils (m), ils peignent aussi l’image miroir (gauche et droite, haut et bas, ou les deux) ou les quatre quarts de tour. La baguette (a) sélectionne des cases voisines ; le menu Édition les remplit, en trace le contour ou l’ombre. « Calquer une image » dans le menu Affichage montre une image là où rien n’est encore peint.',
   'view.readVerdict': 'Lisez le verdict.',
-  'view.afterEveryStrokePanel': 'Après chaque trait, la page dit si les indices n’ont qu’une solution. ✓ Unique : aucune autre image ne les a. ≠ Ambiguë : une autre les a aussi, et vous pouvez la regarder (x). ? Indécise : le temps n’a pas suffi ; choisissez une « Durée de recherche » plus longue.',
+  'view.afterEveryStrokePanel':
+      'Après chaque trait, la page dit si les indices n’ont qu’une solution. ✓ Unique : aucune autre image ne les a. ≠ Ambiguë : une autre les a aussi, et vous pouvez la regarder (x). ? Indécise : le temps n’a pas suffi ; choisissez une « Durée de recherche » plus longue.',
   'view.findWeakSpot': 'Trouvez le point faible.',
-  'view.tourWeakSpot': 'Les cases encadrées diffèrent dans l’autre image. Les cases hachurées ne se déduisent pas ligne par ligne (h les montre). L’outil Pourquoi (w) explique chaque case.',
+  'view.tourWeakSpot':
+      'Les cases encadrées diffèrent dans l’autre image. Les cases hachurées ne se déduisent pas ligne par ligne (h les montre). L’outil Pourquoi (w) explique chaque case.',
   'view.tourFix': 'Réparez.',
-  'view.fixLooksCellRepaint': '« Réparer » cherche quelques cases à repeindre, à donner, ou un peu des deux. Les cases données portent un losange ◆ et s’impriment avec la grille. « Plus facile ou plus difficile » cherche au plus quatre cases à repeindre, ou une à donner, pour que la grille soit facile, moyenne ou difficile.',
+  'view.fixLooksCellRepaint':
+      '« Réparer » cherche quelques cases à repeindre, à donner, ou un peu des deux. Les cases données portent un losange ◆ et s’impriment avec la grille. « Plus facile ou plus difficile » cherche au plus quatre cases à repeindre, ou une à donner, pour que la grille soit facile, moyenne ou difficile.',
   'view.play': 'Jouez.',
-  'view.playMenuCheckShows': '« Jouer » dans le menu Vérifier montre la grille telle qu’on la reçoit pour la résoudre.',
+  'view.playMenuCheckShows':
+      '« Jouer » dans le menu Vérifier montre la grille telle qu’on la reçoit pour la résoudre.',
   'view.checkColours': 'Vérifiez les couleurs.',
-  'view.coloursColourBlindMenu': '« Couleurs pour daltoniens » dans le menu Vérifier nomme les paires que certains confondent. Le menu Image lit et enregistre des palettes (GIMP, JASC, hexadécimal).',
+  'view.coloursColourBlindMenu':
+      '« Couleurs pour daltoniens » dans le menu Vérifier nomme les paires que certains confondent. Le menu Image lit et enregistre des palettes (GIMP, JASC, hexadécimal).',
   'view.publish': 'Publiez.',
-  'view.menuFilePrintsExports': 'Le menu Fichier l’imprime, seule ou avec d’autres en feuilles pour un livre, et l’exporte : XML pour les sites de jeux, images, liens, et un certificat. Une grille est « Bonne à publier » si elle n’a qu’une solution, n’est pas vide, et n’a ni case donnée inutile ni couleurs qui se confondent. Sa difficulté compte des tours, chacun sur toutes les lignes et colonnes ; la plus longue attente est le plus grand nombre de lignes examinées jusqu’à ce que l’une détermine une case.',
-  'view.certificateProvesYourPuzzle': 'Un certificat prouve que votre grille n’a qu’une solution, avec les cases données qu’il nomme : publiez-les aussi. Qui possède le certificat n’a pas à croire cette page : un petit vérificateur lit l’image et le certificat, et suit chaque étape.',
-  'view.exportFileExportCertificate': 'Choisissez « Exporter pour un site » dans le menu Fichier. Un zip est enregistré : l’image (PPM), son certificat et, s’il y en a, les cases données et un fond qui n’est pas blanc. Un site les vérifie par « nonobench check --background R,G,B --givens FICHIER IMAGE CERTIFICAT » (sans ce que le zip n’a pas), ou dans son propre programme.',
-  'view.checkOneHereOpen': 'Pour en vérifier un ici, ouvrez l’image et déposez le certificat sur la page. Si vous déposez plusieurs images à la fois, chacune avec sa liste de cases données et son fond, vous obtenez un tableau de verdicts.',
+  'view.menuFilePrintsExports':
+      'Le menu Fichier l’imprime, seule ou avec d’autres en feuilles pour un livre, et l’exporte : XML pour les sites de jeux, images, liens, et un certificat. Une grille est « Bonne à publier » si elle n’a qu’une solution, n’est pas vide, et n’a ni case donnée inutile ni couleurs qui se confondent. Sa difficulté compte des tours, chacun sur toutes les lignes et colonnes ; la plus longue attente est le plus grand nombre de lignes examinées jusqu’à ce que l’une détermine une case.',
+  'view.certificateProvesYourPuzzle':
+      'Un certificat prouve que votre grille n’a qu’une solution, avec les cases données qu’il nomme : publiez-les aussi. Qui possède le certificat n’a pas à croire cette page : un petit vérificateur lit l’image et le certificat, et suit chaque étape.',
+  'view.exportFileExportCertificate':
+      'Choisissez « Exporter pour un site » dans le menu Fichier. Un zip est enregistré : l’image (PPM), son certificat et, s’il y en a, les cases données et un fond qui n’est pas blanc. Un site les vérifie par « nonobench check --background R,G,B --givens FICHIER IMAGE CERTIFICAT » (sans ce que le zip n’a pas), ou dans son propre programme.',
+  'view.checkOneHereOpen':
+      'Pour en vérifier un ici, ouvrez l’image et déposez le certificat sur la page. Si vous déposez plusieurs images à la fois, chacune avec sa liste de cases données et son fond, vous obtenez un tableau de verdicts.',
   'view.yourPicturesStayLibrary': 'Vos images sont dans la bibliothèque de ce navigateur, avec leurs annulations. Le navigateur peut les perdre : enregistrez ce qui compte dans un fichier, ou tout par « Tout enregistrer en zip » sur l’écran d’accueil.',
   'view.commit': ', commit {commit}',
   'view.runsAlone': 'Elle ne fonctionne que dans votre navigateur, et n’envoie rien.',
@@ -157,7 +180,8 @@ export const FR = /** @type {const} */ ({
   'view.keyDelete': 'Suppr',
   'view.smallMapPicture': 'Petit plan de l’image',
   'view.cluesCut': '{clues|# indice coupé|# d’indices coupés|# indices coupés}',
-  'view.cluesCutMore': 'En montrer davantage. Pointez une ligne ou une colonne pour voir tout son indice.',
+  'view.cluesCutMore':
+      'En montrer davantage. Pointez une ligne ou une colonne pour voir tout son indice.',
   'view.zoomForNumbers': 'Agrandir pour lire les nombres',
   'view.undo': 'Annuler',
   'view.redo': 'Rétablir',
@@ -170,7 +194,8 @@ export const FR = /** @type {const} */ ({
   'view.place': 'Poser',
   'view.rowsLetters': 'Lignes de lettres',
   'view.pasteText': 'Coller du texte',
-  'view.oneLineEachRow': 'Une ligne de texte par ligne, une lettre par case : un point est le fond, a à o sont les couleurs.',
+  'view.oneLineEachRow':
+      'Une ligne de texte par ligne, une lettre par case : un point est le fond, a à o sont les couleurs.',
   'view.paste': 'Coller',
   'view.theseNotRowsLetters': 'Ce ne sont pas des lignes de lettres de cette palette.',
   'view.mirrorLeftRight': 'Miroir gauche et droite',
@@ -238,11 +263,14 @@ export const FR = /** @type {const} */ ({
   'view.swap': 'Échanger avec',
   'view.giveNumber': 'Donnez le numéro d’une autre, de 1 à {count}.',
   'view.dragIntoPlaceEnter': 'Faites-le glisser à sa place. Entrée le pose, Échap annule.',
-  'view.cutRowsCells': 'Coupé : {rows|# ligne|# de lignes|# lignes} de {cells|# case|# de cases|# cases}.',
-  'view.copiedRowsCells': 'Copié : {rows|# ligne|# de lignes|# lignes} de {cells|# case|# de cases|# cases}.',
+  'view.cutRowsCells':
+      'Coupé : {rows|# ligne|# de lignes|# lignes} de {cells|# case|# de cases|# cases}.',
+  'view.copiedRowsCells':
+      'Copié : {rows|# ligne|# de lignes|# lignes} de {cells|# case|# de cases|# cases}.',
   'view.browserDoesNotLet': 'Le navigateur ne laisse pas la page copier. Utilisez Ctrl+C.',
   'view.pencil': 'Crayon',
-  'view.dragPaintRightButton': 'Glissez pour peindre. Le bouton droit ou Alt prend la couleur d’une case.',
+  'view.dragPaintRightButton':
+      'Glissez pour peindre. Le bouton droit ou Alt prend la couleur d’une case.',
   'view.line': 'Ligne droite',
   'view.dragFromEndEnd': 'Glissez d’un bout à l’autre.',
   'view.rectangle': 'Rectangle',
@@ -252,15 +280,20 @@ export const FR = /** @type {const} */ ({
   'view.bucket': 'Pot de peinture',
   'view.fillsConnectedCellsOne': 'Remplit les cases voisines d’une même couleur.',
   'view.recolour': 'Recolorer',
-  'view.turnsAllCellsColour': 'Donne la couleur choisie à toutes les cases de la couleur pointée ; dans une sélection, seulement aux siennes.',
+  'view.turnsAllCellsColour':
+      'Donne la couleur choisie à toutes les cases de la couleur pointée ; dans une sélection, seulement aux siennes.',
   'view.select': 'Sélectionner',
-  'view.dragSelectRectangleDrag': 'Glissez pour sélectionner un rectangle ; faites-le glisser pour le déplacer. Entrée le pose, Échap annule le déplacement.',
+  'view.dragSelectRectangleDrag':
+      'Glissez pour sélectionner un rectangle ; faites-le glisser pour le déplacer. Entrée le pose, Échap annule le déplacement.',
   'view.giveCells': 'Donner des cases',
-  'view.givenCellsPrintedPuzzle': 'Les cases données s’impriment avec la grille. Glissez pour en donner, ou pour les reprendre.',
+  'view.givenCellsPrintedPuzzle':
+      'Les cases données s’impriment avec la grille. Glissez pour en donner, ou pour les reprendre.',
   'view.lockCells': 'Verrouiller',
-  'view.noRepairChangesLocked': 'Aucune réparation ne change une case verrouillée. Glissez pour en verrouiller, ou pour les libérer.',
+  'view.noRepairChangesLocked':
+      'Aucune réparation ne change une case verrouillée. Glissez pour en verrouiller, ou pour les libérer.',
   'view.why': 'Pourquoi',
-  'view.pointCellSeeWhy': 'Pointez une case pour voir pourquoi elle ne peut avoir une autre couleur.',
+  'view.pointCellSeeWhy':
+      'Pointez une case pour voir pourquoi elle ne peut avoir une autre couleur.',
   'view.otherPictureGoBack': 'Ceci est l’autre image. Revenez à la vôtre (x) pour la changer.',
   'view.liesOutsidePicture': 'c’est hors de l’image',
   'view.paletteNoSuchColour': 'la palette n’a pas cette couleur',
@@ -294,47 +327,60 @@ export const FR = /** @type {const} */ ({
   'view.leftRightSame': 'gauche et droite pareilles',
   'view.topBottomSame': 'haut et bas pareils',
   'view.longerSearchTimeMay': 'Une « Durée de recherche » plus longue en trouvera peut-être.',
-  'view.pictureTooLooseBolder': 'L’image est trop clairsemée : un seuil plus fort à l’import, ou des traits plus épais, aideront peut-être davantage.',
+  'view.pictureTooLooseBolder':
+      'L’image est trop clairsemée : un seuil plus fort à l’import, ou des traits plus épais, aideront peut-être davantage.',
   'view.fixTitle': 'Réparer',
   'view.aimTitle': 'Plus facile ou plus difficile',
   'view.until': 'Objectif',
   'view.whatMayRepainted': 'Ce qui peut être repeint',
   'view.findCellsRepaint': 'Chercher de nouveau',
   'view.proposals': 'Propositions',
-  'view.onlyNeighboursColourNo': 'Seulement la couleur d’une case voisine, sans nouveau pixel isolé',
+  'view.onlyNeighboursColourNo':
+      'Seulement la couleur d’une case voisine, sans nouveau pixel isolé',
   'view.symmetry': 'Symétrie',
   'view.lockAllButSelection': 'Verrouiller tout sauf la sélection',
   'view.unlockAll': 'Tout libérer',
   'view.selectPartMayChange': 'Sélectionnez d’abord la partie qui peut changer (s).',
-  'view.lockedCellsColoursCells': 'Verrouillé : {cells|# case|# de cases|# cases}, {colours|# couleur|# de couleurs|# couleurs}. Verrouillez des cases avec l’outil Verrouiller (k), et des couleurs dans la palette.',
+  'view.lockedCellsColoursCells':
+      'Verrouillé : {cells|# case|# de cases|# cases}, {colours|# couleur|# de couleurs|# couleurs}. Verrouillez des cases avec l’outil Verrouiller (k), et des couleurs dans la palette.',
   'view.lookingCellsGive': 'Recherche de cases à donner',
   'view.cellsSuffice': '{cells|# case suffit|# de cases suffisent|# cases suffisent}',
   'view.stoppedBeforeThereCells': 'Arrêté avant d’avoir trouvé assez de cases.',
   'view.noCellsFoundTime': 'Aucune case trouvée en ce temps. {longer}',
   'view.noFewerDo': ' : moins ne suffit pas',
-  'view.cellsGivenOneUndo': '{cells|# case donnée|# de cases données|# cases données}{isLeast}. Une annulation {cells|la reprend|les reprend|les reprend}.',
+  'view.cellsGivenOneUndo':
+      '{cells|# case donnée|# de cases données|# cases données}{isLeast}. Une annulation {cells|la reprend|les reprend|les reprend}.',
   'view.lookingRepairs': 'Recherche de réparations',
   'view.cellsGuess': 'cases ouvertes {open} → {open2}',
-  'view.otherSolutionsDifferCells': 'd’autres solutions diffèrent en {other}{cells|# case|# de cases|# cases}',
+  'view.otherSolutionsDifferCells':
+      'd’autres solutions diffèrent en {other}{cells|# case|# de cases|# cases}',
   'view.cells': '{cells|# case|# de cases|# cases}',
   'view.time': ' en ce temps',
-  'view.noneUpCellsExists': ', et il n’en existe aucune d’au plus {cells|# case|# de cases|# cases}',
+  'view.noneUpCellsExists':
+      ', et il n’en existe aucune d’au plus {cells|# case|# de cases|# cases}',
   'view.noRepaintFound': 'Aucune réparation par peinture trouvée{ended}.',
   'view.gradeThere': 'La difficulté est déjà « {grade} ». Choisissez-en une autre.',
   'view.oneSolutionThere': 'La grille a déjà une seule solution.',
-  'view.noChangeForGrade': 'Aucun changement d’au plus quatre cases, ni aucune case donnée, n’a été trouvé pour que la difficulté soit « {grade} ».',
-  'view.otherwiseForGrade': 'Moins ou plus de couleurs, une autre taille ou un autre fond y mèneront peut-être.',
+  'view.noChangeForGrade':
+      'Aucun changement d’au plus quatre cases, ni aucune case donnée, n’a été trouvé pour que la difficulté soit « {grade} ».',
+  'view.otherwiseForGrade':
+      'Moins ou plus de couleurs, une autre taille ou un autre fond y mèneront peut-être.',
   'view.whatListedGivesCells': ' Les propositions ci-dessous donnent aussi des cases.',
   'view.whatListedComesNearer': ' Les changements ci-dessous s’en approchent le plus.',
   'view.noneSmaller': ' Selon ces règles, il n’en existe pas de plus petite.',
-  'view.moreCellsPictureToo': ' Plus de {few} cases : l’image est trop clairsemée ; un seuil plus fort à l’import, ou des traits plus épais, aideront peut-être davantage.',
-  'view.proposalsFoundChooseOne': '{proposals|# proposition trouvée|# de propositions trouvées|# propositions trouvées}.{least}{loose} Choisissez-en une pour la peindre ; {see} pour la voir d’abord.',
+  'view.moreCellsPictureToo':
+      ' Plus de {few} cases : l’image est trop clairsemée ; un seuil plus fort à l’import, ou des traits plus épais, aideront peut-être davantage.',
+  'view.proposalsFoundChooseOne':
+      '{proposals|# proposition trouvée|# de propositions trouvées|# propositions trouvées}.{least}{loose} Choisissez-en une pour la peindre ; {see} pour la voir d’abord.',
   'view.pointToSee': 'pointez-la',
   'view.holdToSee': 'maintenez-la appuyée',
   'view.andGiven': ' et {count} données',
-  'view.cellsRepaintedOneUndo': '{cells|# case repeinte|# de cases repeintes|# cases repeintes}{more}. Une annulation {count|la reprend|les reprend|les reprend}.',
-  'view.roundsLinesLookedLongest': '{rounds|# tour|# de tours|# tours}, {lines|# ligne examinée|# de lignes examinées|# lignes examinées}, au plus {wait|# ligne|# de lignes|# lignes} jusqu’à une case fixée',
-  'view.cellsGuessSplitsDepth': '{open|# case ouverte|# de cases ouvertes|# cases ouvertes}, {splits|# hypothèse|# d’hypothèses|# hypothèses}, profondeur {depth} ; {lines}',
+  'view.cellsRepaintedOneUndo':
+      '{cells|# case repeinte|# de cases repeintes|# cases repeintes}{more}. Une annulation {count|la reprend|les reprend|les reprend}.',
+  'view.roundsLinesLookedLongest':
+      '{rounds|# tour|# de tours|# tours}, {lines|# ligne examinée|# de lignes examinées|# lignes examinées}, au plus {wait|# ligne|# de lignes|# lignes} jusqu’à une case fixée',
+  'view.cellsGuessSplitsDepth':
+      '{open|# case ouverte|# de cases ouvertes|# cases ouvertes}, {splits|# hypothèse|# d’hypothèses|# hypothèses}, profondeur {depth} ; {lines}',
   'view.chosenColourName': 'La couleur choisie par son nom',
   'view.name123abc': 'nom ou #123abc',
   'view.noColourName': '« {text} » n’est pas le nom d’une couleur.',
@@ -348,10 +394,13 @@ export const FR = /** @type {const} */ ({
   'view.anotherColourNamed': 'Une autre couleur s’appelle « {name} ».',
   'view.meansSomethingElseXml': '« {sign} » veut dire autre chose en XML.',
   'view.anotherColourSign': 'Une autre couleur a le signe « {sign} ».',
-  'view.paletteColourAlreadyMake': 'La palette a déjà cette couleur. Pour en réunir deux, utilisez Fusionner.',
+  'view.paletteColourAlreadyMake':
+      'La palette a déjà cette couleur. Pour en réunir deux, utilisez Fusionner.',
   'view.mergeColour': 'Fusionner cette couleur',
-  'view.allCellsGetAnother': 'Toutes les cases de {colour} prennent une autre couleur, et celle-ci quitte la palette.',
-  'view.colourRemovedThoseAfter': 'La couleur a été retirée ; les suivantes ont de nouvelles lettres. Annuler la ramène.',
+  'view.allCellsGetAnother':
+      'Toutes les cases de {colour} prennent une autre couleur, et celle-ci quitte la palette.',
+  'view.colourRemovedThoseAfter':
+      'La couleur a été retirée ; les suivantes ont de nouvelles lettres. Annuler la ramène.',
   'view.backgroundStaysEveryPicture': 'Le fond reste : toute image en a un.',
   'view.backgroundAlwaysComesFirst': 'Le fond vient toujours en premier.',
   'view.colourFirstOneAlready': 'Cette couleur est déjà la première.',
@@ -388,7 +437,8 @@ export const FR = /** @type {const} */ ({
   'view.allPlaces': 'Les {places} endroits à la fois',
   'view.bothPlaces': 'Les deux endroits à la fois',
   'view.givesToo': 'Avec des cases données, qui s’impriment avec la grille',
-  'view.onlyOneSolution': 'Aucun petit changement trouvé qui la rend soluble ligne par ligne. Ceux-ci laissent une seule solution.',
+  'view.onlyOneSolution':
+      'Aucun petit changement trouvé qui la rend soluble ligne par ligne. Ceux-ci laissent une seule solution.',
   'view.keepNextSearch': 'garder pour la prochaine recherche',
   'view.untilStopped': 'jusqu’à l’arrêt',
   'view.pictureAlone': 'l’image seule',
@@ -412,7 +462,8 @@ export const FR = /** @type {const} */ ({
   'view.searchTime': 'Durée de recherche',
   'view.stop': 'Arrêter',
   'view.less': 'Moins',
-  'view.framedCellsDiffer': 'Les cases encadrées diffèrent : le coin a la couleur de l’image qui n’est pas montrée.',
+  'view.framedCellsDiffer':
+      'Les cases encadrées diffèrent : le coin a la couleur de l’image qui n’est pas montrée.',
   'view.noOtherPictureKnown': 'Aucune autre image n’est connue.',
   'view.hatchedCells': 'Les cases hachurées ne se déduisent pas ligne par ligne.',
   'view.countDiffer': '{cells|# case diffère|# de cases diffèrent|# cases diffèrent}',
@@ -420,11 +471,14 @@ export const FR = /** @type {const} */ ({
   'view.andGivenCells': ' et {cells|la case donnée|les # de cases données|les # cases données}',
   'view.blank': 'Vide',
   'view.nothingPainted': 'rien n’est encore peint',
-  'view.blankOneSolution': 'Rien n’est encore peint. Ces indices ont une seule solution, l’image vide.',
-  'view.someNeedGuessing': '{open} cases sur {count} {open|demande|demandent|demandent} plus que la logique ligne par ligne.',
+  'view.blankOneSolution':
+      'Rien n’est encore peint. Ces indices ont une seule solution, l’image vide.',
+  'view.someNeedGuessing':
+      '{open} cases sur {count} {open|demande|demandent|demandent} plus que la logique ligne par ligne.',
   'view.lineLogicSolvesWithout': 'La logique ligne par ligne suffit à la résoudre.',
   'view.noOtherPictureThese': 'Aucune autre image n’a ces indices{with}. {open}',
-  'view.anotherPictureTheseClues': 'Une autre image a aussi ces indices. Elle diffère en {cells|# case|# de cases|# cases}.',
+  'view.anotherPictureTheseClues':
+      'Une autre image a aussi ces indices. Elle diffère en {cells|# case|# de cases|# cases}.',
   'view.searching': '… Recherche',
   'view.noOtherPictureFound': 'Pas d’autre image trouvée jusqu’ici.',
   'view.withinS': 'en {secondsChosen} s',
@@ -438,8 +492,10 @@ export const FR = /** @type {const} */ ({
   'view.searchUntilStopped': 'Chercher jusqu’à l’arrêt',
   'view.searchS': 'Chercher pendant {seconds} s',
   'view.of': ' sur {seconds}',
-  'view.thereNoCertificateAnother': 'Il n’y a pas de certificat, car la grille a une deuxième solution. « Réparer » cherche des changements qui n’en laissent qu’une.',
-  'view.noCertificateFoundWithin': 'Aucun certificat trouvé en {secondsChosen} s. Choisissez une « Durée de recherche » plus longue.',
+  'view.thereNoCertificateAnother':
+      'Il n’y a pas de certificat, car la grille a une deuxième solution. « Réparer » cherche des changements qui n’en laissent qu’une.',
+  'view.noCertificateFoundWithin':
+      'Aucun certificat trouvé en {secondsChosen} s. Choisissez une « Durée de recherche » plus longue.',
   'view.searchCertificateStopped': 'La recherche d’un certificat a été arrêtée.',
   'view.shown': 'Montré : {hatching}.',
   'view.searchAnotherPicture': 'Chercher une autre image',
@@ -448,7 +504,8 @@ export const FR = /** @type {const} */ ({
   'view.noTwoColoursLook': 'Aucune couleur ne se confond avec une autre.',
   'view.lookAlike': 'Se confondent : {pairs}.',
   'view.wand': 'Baguette',
-  'view.selectsConnectedCellsOne': 'Sélectionne les cases voisines d’une même couleur ; avec Maj, ou si le menu Édition le dit, elle ajoute à la sélection.',
+  'view.selectsConnectedCellsOne':
+      'Sélectionne les cases voisines d’une même couleur ; avec Maj, ou si le menu Édition le dit, elle ajoute à la sélection.',
   'view.selectAllCellsColour': 'Sélectionner toutes les cases de la couleur choisie',
   'view.wandAdds': 'La baguette ajoute à la sélection',
   'view.fillSelection': 'Remplir la sélection',
@@ -462,7 +519,8 @@ export const FR = /** @type {const} */ ({
   'view.topBottom': 'Haut et bas',
   'view.both': 'Les deux',
   'view.quarterTurns': 'Quarts de tour',
-  'view.quarterTurnsNeedPicture': 'Les quarts de tour demandent une image dont largeur et hauteur sont toutes deux paires ou impaires.',
+  'view.quarterTurnsNeedPicture':
+      'Les quarts de tour demandent une image dont largeur et hauteur sont toutes deux paires ou impaires.',
   'view.coloursColourBlind': 'Couleurs pour daltoniens',
   'view.withoutRedCones': 'Sans cônes rouges (protanopie)',
   'view.withoutGreenCones': 'Sans cônes verts (deutéranopie)',
@@ -476,7 +534,8 @@ export const FR = /** @type {const} */ ({
   'play.byClueAlone': ', d’après son seul indice',
   'play.byExcludedColours': ', d’après son indice et les couleurs que des lignes croisées excluent',
   'play.checkShowsWhich': '« Vérifier » montre où.',
-  'play.noLineSettlesCell': 'Aucune ligne seule ne détermine de case : il faut plus que la logique ligne par ligne.',
+  'play.noLineSettlesCell':
+      'Aucune ligne seule ne détermine de case : il faut plus que la logique ligne par ligne.',
   'play.nothingLeft': 'Il ne reste rien.',
   'play.noMark': 'pas de marque',
   'play.cellClues': '{place}. Ligne : {playClue}. Colonne : {playClue2}.',
@@ -491,9 +550,11 @@ export const FR = /** @type {const} */ ({
   'play.lineTellsMoreAgain': 'Quelle ligne aide ; encore : quelles cases ; encore : pourquoi',
   'play.startOver': 'Recommencer',
   'play.startedOver': 'Toutes les marques sont effacées. « Annuler » les rétablit.',
-  'play.howTo': 'Les nombres à côté d’une ligne ou d’une colonne sont ses blocs, dans l’ordre. Entre deux blocs d’une même couleur, il y a au moins une case de fond ; les autres peuvent se toucher.\nChoisissez une couleur et glissez le long d’une ligne ou d’une colonne. Si la première case l’a déjà, vous effacez.\n× marque des cases comme fond, de même que le bouton droit de la souris ou la touche X. Ce n’est pas nécessaire.\n⌫ efface des marques.\nDeux doigts déplacent l’image, et les écarter ou les rapprocher zoome.\nUne couleur qui se distingue à peine des cases vides reçoit un bord. L’image résolue est montrée sans bords ni croix.\n« Vérifier » montre quelles marques sont fausses.\n« Aide-moi » nomme une ligne utile ; encore : ses cases ; encore : pourquoi.\n« Recommencer » efface toutes les marques ; « Annuler » les rétablit.\nVos marques restent dans ce navigateur jusqu’à ce que la grille soit résolue.',
+  'play.howTo':
+      'Les nombres à côté d’une ligne ou d’une colonne sont ses blocs, dans l’ordre. Entre deux blocs d’une même couleur, il y a au moins une case de fond ; les autres peuvent se toucher.\nChoisissez une couleur et glissez le long d’une ligne ou d’une colonne. Si la première case l’a déjà, vous effacez.\n× marque des cases comme fond, de même que le bouton droit de la souris ou la touche X. Ce n’est pas nécessaire.\n⌫ efface des marques.\nDeux doigts déplacent l’image, et les écarter ou les rapprocher zoome.\nUne couleur qui se distingue à peine des cases vides reçoit un bord. L’image résolue est montrée sans bords ni croix.\n« Vérifier » montre quelles marques sont fausses.\n« Aide-moi » nomme une ligne utile ; encore : ses cases ; encore : pourquoi.\n« Recommencer » efface toutes les marques ; « Annuler » les rétablit.\nVos marques restent dans ce navigateur jusqu’à ce que la grille soit résolue.',
   'play.walkThrough': 'Pas à pas',
-  'play.showsSolution': 'Cela montre la solution, étape par étape. Vos marques reviennent à la fin.',
+  'play.showsSolution':
+      'Cela montre la solution, étape par étape. Vos marques reviennent à la fin.',
   'play.backPicture': 'Retour à l’image',
   'play.puzzle': 'Grille',
   'play.wipe': 'effacer',
@@ -501,7 +562,8 @@ export const FR = /** @type {const} */ ({
   'play.solved': 'Résolue.',
   'play.cellsWrong': '{cells|# case fausse|# de cases fausses|# cases fausses}.',
   'play.nothingWrongSoFar': 'Rien de faux jusqu’ici.',
-  'play.cellsDiffer': '{cells|# case diffère|# de cases diffèrent|# cases diffèrent} de votre image.',
+  'play.cellsDiffer':
+      '{cells|# case diffère|# de cases diffèrent|# cases diffèrent} de votre image.',
   'play.nothingDiffersFromYour': 'Rien ne diffère de votre image jusqu’ici.',
   'play.stepBack': 'Un pas en arrière',
   'play.step': 'Pas',
@@ -510,25 +572,32 @@ export const FR = /** @type {const} */ ({
   'play.order': 'Ordre',
   'play.heatMap': 'Carte des tours',
   'play.solveYourself': 'Résoudre soi-même',
-  'play.suppose': 'Plus que la logique ligne par ligne : {place} est {colour}. Toute autre couleur y mène à une impasse.',
+  'play.suppose':
+      'Plus que la logique ligne par ligne : {place} est {colour}. Toute autre couleur y mène à une impasse.',
   'play.emptyPuzzle': ' : la grille vide.',
   'play.soFar': ' jusqu’ici',
   'play.stepOf': 'Pas {at} sur {count}{isWhole}{told}',
   'play.pause': 'Pause',
   'play.playSteps': 'Lire',
-  'play.numberCellRoundFalls': 'Le nombre dans une case est le tour où elle est déterminée ; ? demande plus que la logique ligne par ligne.',
+  'play.numberCellRoundFalls':
+      'Le nombre dans une case est le tour où elle est déterminée ; ? demande plus que la logique ligne par ligne.',
   // ---- library
   'library.browsersStorageFull': 'La mémoire du navigateur est pleine',
   'library.browsersStorageLate': 'La mémoire du navigateur ne s’ouvre pas',
   'library.browserKeepsNothingPage': 'Ce navigateur ne garde rien pour cette page',
   'library.browsersStorageDoesNot': 'La mémoire du navigateur ne l’accepte pas',
-  'library.yourWorkTabAlone': '{why} : votre travail n’est que dans cet onglet. Enregistrez-le dans un fichier (Ctrl+S).',
-  'library.pictureOpenAnotherTab': 'Cette image est ouverte dans un autre onglet. Ce que vous changez ici va dans une copie.',
+  'library.yourWorkTabAlone':
+      '{why} : votre travail n’est que dans cet onglet. Enregistrez-le dans un fichier (Ctrl+S).',
+  'library.pictureOpenAnotherTab':
+      'Cette image est ouverte dans un autre onglet. Ce que vous changez ici va dans une copie.',
   'library.openAnotherPicture': 'Ouvrir une autre image',
-  'library.notBeenSavedBrowser': '« {name} » n’a pas été enregistrée, et le navigateur ne la garde pas. Elle serait perdue.',
+  'library.notBeenSavedBrowser':
+      '« {name} » n’a pas été enregistrée, et le navigateur ne la garde pas. Elle serait perdue.',
   'library.open': 'Ouvrir',
-  'library.nothingSavedPrinted': 'Rien n’a été enregistré ni imprimé, car « {name} » n’a pu être ouverte : {fault}',
-  'library.pictureLibraryDamagedCould': 'Cette image de la bibliothèque est endommagée ou n’y est plus.',
+  'library.nothingSavedPrinted':
+      'Rien n’a été enregistré ni imprimé, car « {name} » n’a pu être ouverte : {fault}',
+  'library.pictureLibraryDamagedCould':
+      'Cette image de la bibliothèque est endommagée ou n’y est plus.',
   'library.widthHeightNotFrom': 'sa largeur ou sa hauteur n’est pas entre 1 et {most}',
   'library.tooFewTooMany': 'elle a trop peu ou trop d’indices',
   'library.clueNoListNumbers': 'un indice n’est pas une liste de nombres',
@@ -551,7 +620,8 @@ export const FR = /** @type {const} */ ({
   'library.description': 'sa description',
   'library.solutionsDoNotFit': 'des solutions qui ne conviennent plus à l’image',
   'library.notWritten': '{name} n’a pas été écrit ({message}).',
-  'library.savedWithoutXmlKeeps': '{file} enregistré, sans {without}. « Enregistrer sous » garde tout, en XML.',
+  'library.savedWithoutXmlKeeps':
+      '{file} enregistré, sans {without}. « Enregistrer sous » garde tout, en XML.',
   'library.saved': '{file} enregistré.{more}',
   'library.form': 'Format de fichier',
   'library.saveAs': 'Enregistrer sous',
@@ -561,11 +631,14 @@ export const FR = /** @type {const} */ ({
   // ---- import
   'import.libraryNoPictures': 'La bibliothèque n’a pas d’images.',
   'import.onesLeftOut': ' ; {ones|# endommagée|# d’endommagées|# endommagées} mises de côté',
-  'import.picturesSavedNonobenchLibrary': '{pictures|# image enregistrée|# d’images enregistrées|# images enregistrées} dans « nonobench library.zip »{count}.',
+  'import.picturesSavedNonobenchLibrary':
+      '{pictures|# image enregistrée|# d’images enregistrées|# images enregistrées} dans « nonobench library.zip »{count}.',
   'import.picturesThereAlready': '{pictures|# image|# d’images|# images} déjà là',
-  'import.filesNotRead': '{files|# fichier illisible|# de fichiers illisibles|# fichiers illisibles}',
+  'import.filesNotRead':
+      '{files|# fichier illisible|# de fichiers illisibles|# fichiers illisibles}',
   'import.picturesNotTaken': '{pictures|# image|# d’images|# images} pas ajoutées',
-  'import.picturesFromArchive': '« {name} » : {pictures|# image|# d’images|# images} dans la bibliothèque{left}.',
+  'import.picturesFromArchive':
+      '« {name} » : {pictures|# image|# d’images|# images} dans la bibliothèque{left}.',
   'import.addManyFiles': 'Ajouter {files|# fichier|# de fichiers|# fichiers} ?',
   'import.addManyPuzzles': 'Ajouter {puzzles|# grille|# de grilles|# grilles} ?',
   'import.pictureGoesLibrary': 'Chaque image de « {name} » va dans la bibliothèque.',
@@ -576,24 +649,30 @@ export const FR = /** @type {const} */ ({
   'import.doesNotProvePicture': 'Il ne prouve pas cette image ({value}).',
   'import.faultNotCert': 'La ligne {line} n’est pas celle par laquelle un certificat commence.',
   'import.faultBadLine': 'Sa ligne {line} n’est pas une ligne de certificat.',
-  'import.faultPlace': 'Sa ligne {line} nomme une ligne, une colonne ou une case que cette image n’a pas.',
+  'import.faultPlace':
+      'Sa ligne {line} nomme une ligne, une colonne ou une case que cette image n’a pas.',
   'import.faultNotDead': 'Ce que sa ligne {line} exclut est possible dans cette image.',
-  'import.faultNotDone': 'À sa ligne {line}, une case peut encore avoir une autre couleur que dans cette image.',
+  'import.faultNotDone':
+      'À sa ligne {line}, une case peut encore avoir une autre couleur que dans cette image.',
   'import.faultEnded': 'Il se termine trop tôt : sa ligne {line} manque.',
   'import.faultTrailing': 'Sa ligne {line} vient après sa fin.',
   'import.linesEndCrLf': 'Ses lignes se terminent par CR LF, et doivent se terminer par LF seul.',
   'import.isUtf16': 'Il est en UTF-16, et doit être en ASCII.',
-  'import.hasByteOrderMark': 'Il commence par une marque d’ordre des octets (BOM), et doit commencer par son premier mot.',
+  'import.hasByteOrderMark':
+      'Il commence par une marque d’ordre des octets (BOM), et doit commencer par son premier mot.',
   'import.givenCells': ' avec ses cases données',
   'import.provesPictureOnlySolution': 'Il prouve que cette image est la seule solution{count}.',
-  'import.certificateOpenPictureFirst': '« {name} » est un certificat. Ouvrez d’abord son image, puis déposez-le ici pour le vérifier.',
+  'import.certificateOpenPictureFirst':
+      '« {name} » est un certificat. Ouvrez d’abord son image, puis déposez-le ici pour le vérifier.',
   'import.checking': 'Vérification de « {name} »',
-  'import.imageDragSelectPart': 'Le fichier image. Glissez pour en sélectionner une partie. Un clic, ou les flèches et Entrée, gardent une couleur.',
+  'import.imageDragSelectPart':
+      'Le fichier image. Glissez pour en sélectionner une partie. Un clic, ou les flèches et Entrée, gardent une couleur.',
   'import.turnImageIntoPuzzle': '{name} : en faire une grille',
   'import.createPuzzle': 'Créer la grille',
   'import.madeFromImageVerdict': '« {name} » vient du fichier image.',
   'import.puzzle': 'La grille',
-  'import.dragOverImageSelect': 'Glissez pour sélectionner une partie. Cliquez une couleur pour la garder.',
+  'import.dragOverImageSelect':
+      'Glissez pour sélectionner une partie. Cliquez une couleur pour la garder.',
   'import.tapToKeep': 'Glissez pour sélectionner une partie. Touchez une couleur pour la garder.',
   'import.partImagePixels': 'Partie du fichier image, en pixels',
   'import.left': 'Gauche',
@@ -627,7 +706,8 @@ export const FR = /** @type {const} */ ({
   'import.contrast': 'Contraste',
   'import.dithering': 'Tramage',
   'import.removeSpecksUpSo': 'Plus grande tache à retirer, en cases',
-  'import.cellsColoursBackground': '{columns} × {rows} cases, {colours|# couleur|# de couleurs|# couleurs} avec le fond',
+  'import.cellsColoursBackground':
+      '{columns} × {rows} cases, {colours|# couleur|# de couleurs|# couleurs} avec le fond',
   'import.palette': 'Palette de couleurs',
   'import.replace': 'Remplacer par',
   'import.paletteFile': 'Fichier de palette …',
@@ -637,7 +717,8 @@ export const FR = /** @type {const} */ ({
   'import.lookingAnotherSolution': 'Recherche d’une autre solution …',
   'import.notDecidedWithinSome': 'Pas décidé en quelques secondes',
   'import.noVerdictEngineFailed': 'Pas de verdict : le moteur a échoué',
-  'import.cellsNeedGuessing': '{count|# case demande|# de cases demandent|# cases demandent} plus que les lignes',
+  'import.cellsNeedGuessing':
+      '{count|# case demande|# de cases demandent|# cases demandent} plus que les lignes',
   'import.cellsOpen': '{count|# case ouverte|# de cases ouvertes|# cases ouvertes}',
   'import.merge': 'Les réunir',
   'import.lookAlike': 'Trop proches pour être distinguées :',
@@ -649,35 +730,45 @@ export const FR = /** @type {const} */ ({
   'import.hexadecimalHex': 'Hexadécimal (.hex)',
   'import.paletteSaved': 'Palette enregistrée dans « {name} ».',
   'import.coloursOf': 'Couleurs de « {name} »',
-  'import.chooseColoursAddPicture': 'Choisissez des couleurs à ajouter à l’image. Ou remplacez chaque couleur de l’image par la plus proche de celles-ci.',
+  'import.chooseColoursAddPicture':
+      'Choisissez des couleurs à ajouter à l’image. Ou remplacez chaque couleur de l’image par la plus proche de celles-ci.',
   'import.addChosen': 'Ajouter les choisies',
   'import.takeNearest': 'Prendre les plus proches',
   'import.chooseColourFirst': 'Choisissez d’abord une couleur.',
-  'import.paletteRoomColours': 'La palette a encore de la place pour {colours|# couleur|# de couleurs|# couleurs}.',
+  'import.paletteRoomColours':
+      'La palette a encore de la place pour {colours|# couleur|# de couleurs|# couleurs}.',
   'import.fewerColoursPicture': 'Elle a moins de couleurs que l’image.',
-  'import.paletteOpenPictureFirst': '« {name} » est une palette. Ouvrez d’abord une image, puis déposez-la ici.',
+  'import.paletteOpenPictureFirst':
+      '« {name} » est une palette. Ouvrez d’abord une image, puis déposez-la ici.',
   'import.noPictureNoPuzzle': 'ce n’est ni une image ni une grille que cette page sait lire',
   'import.size': 'Taille',
   'import.verdict': 'Verdict',
   'import.grade': 'Difficulté',
-  'import.notPuzzleImageScaled': 'ce n’est pas une grille ; ouvrez une photo seule, pour choisir sa taille, ses couleurs et son fond',
+  'import.notPuzzleImageScaled':
+      'ce n’est pas une grille ; ouvrez une photo seule, pour choisir sa taille, ses couleurs et son fond',
   'import.given': '{cells|# case donnée|# de cases données|# cases données}',
   'import.ofAll': '{count} sur {all}',
   'import.noPictureGoes': 'aucune image ici ne va avec',
   'import.othersLeftOut': 'plus de {most} grilles : les autres sont laissées de côté',
-  'import.severalOfName': 'un dossier ou plusieurs fichiers ont son nom, ou celui d’un fichier qui va avec',
+  'import.severalOfName':
+      'un dossier ou plusieurs fichiers ont son nom, ou celui d’un fichier qui va avec',
   'import.otherBackground': 'son propre fond n’est pas celui du fichier à côté',
-  'import.certificatesNotChecked': 'Les certificats ne sont pas vérifiés ici : ouvrez l’image, puis déposez son certificat sur la page.',
-  'import.picturesAdded': '{pictures|# image ajoutée|# d’images ajoutées|# images ajoutées} à la bibliothèque.',
-  'import.picturesSavedNonobenchPuzzles': '{pictures|# image enregistrée|# d’images enregistrées|# images enregistrées} dans « nonobench puzzles.zip », avec un rapport.',
+  'import.certificatesNotChecked':
+      'Les certificats ne sont pas vérifiés ici : ouvrez l’image, puis déposez son certificat sur la page.',
+  'import.picturesAdded':
+      '{pictures|# image ajoutée|# d’images ajoutées|# images ajoutées} à la bibliothèque.',
+  'import.picturesSavedNonobenchPuzzles':
+      '{pictures|# image enregistrée|# d’images enregistrées|# images enregistrées} dans « nonobench puzzles.zip », avec un rapport.',
   'import.files': '{files|# fichier|# de fichiers|# fichiers}',
-  'import.picturesJudgedRowOpens': '{pictures|# image jugée|# d’images jugées|# images jugées} sur {count}. Une ligne ouvre son image.',
+  'import.picturesJudgedRowOpens':
+      '{pictures|# image jugée|# d’images jugées|# images jugées} sur {count}. Une ligne ouvre son image.',
   'import.puzzles': '{puzzles|# grille|# de grilles|# grilles}',
   'import.saveAllZip': 'Tout enregistrer en zip',
   'import.addLibrary': 'Ajouter à la bibliothèque',
   'import.repairAll': 'Tout réparer',
   'import.repairsTried': '{at} sur {count} images essayées',
-  'import.repairsDone': '{pictures|# image réparée|# d’images réparées|# images réparées} sur {count}.',
+  'import.repairsDone':
+      '{pictures|# image réparée|# d’images réparées|# images réparées} sur {count}.',
   'import.cellsRepainted': '{cells|# case repeinte|# de cases repeintes|# cases repeintes}',
   'import.saveTable': 'Enregistrer le tableau (CSV)',
   'import.more': 'il a plus de {mib} Mio',
@@ -686,15 +777,20 @@ export const FR = /** @type {const} */ ({
   'import.certificateSays': '« {name} » : {text}',
   'import.couldNotOpened': '{name} n’a pu être ouvert : {fault}',
   'import.othersNotRead': ' ; {left} illisibles',
-  'import.firstPuzzlesOpenOthers': 'La première de {count} grilles est ouverte, et {others|# autre est|# d’autres sont|# autres sont} dans la bibliothèque{left}.',
+  'import.firstPuzzlesOpenOthers':
+      'La première de {count} grilles est ouverte, et {others|# autre est|# d’autres sont|# autres sont} dans la bibliothèque{left}.',
   'import.opening': 'Ouverture de {name}',
   'import.searchingPictureTheseClues': 'Recherche d’une image qui a ces indices.',
-  'import.folderNotRead': 'Ce navigateur ne lit pas de dossiers pour une page ouverte depuis un fichier. Sélectionnez les fichiers du dossier et déposez-les.',
-  'import.picturePixelsMostAll': 'l’image a {width} × {height} pixels ; la page en lit au plus {most} en tout',
+  'import.folderNotRead':
+      'Ce navigateur ne lit pas de dossiers pour une page ouverte depuis un fichier. Sélectionnez les fichiers du dossier et déposez-les.',
+  'import.picturePixelsMostAll':
+      'l’image a {width} × {height} pixels ; la page en lit au plus {most} en tout',
   'import.sizeNotToldBeginning': 'son début ne dit pas sa taille',
   'import.browserDoesNotRead': 'le navigateur ne lit pas cette image',
-  'import.saveAsPng': 'les navigateurs ne dessinent pas le {kind} : enregistrez-le en PNG ou JPEG, et ouvrez cela',
-  'import.drawingMoves': 'le dessin bouge, ou contient du HTML ou d’autres documents : enregistrez-le en PNG, et ouvrez cela',
+  'import.saveAsPng':
+      'les navigateurs ne dessinent pas le {kind} : enregistrez-le en PNG ou JPEG, et ouvrez cela',
+  'import.drawingMoves':
+      'le dessin bouge, ou contient du HTML ou d’autres documents : enregistrez-le en PNG, et ouvrez cela',
   'import.traceImage': 'Calquer une image …',
   'import.removeTracedImage': 'Retirer le calque',
   'import.imageTrace': 'Image à calquer',
@@ -702,15 +798,18 @@ export const FR = /** @type {const} */ ({
   'import.dragImageMoveArrow': 'Faites glisser le calque, ou déplacez-le avec les flèches',
   'import.opacity': 'Opacité',
   'import.remove': 'Retirer',
-  'import.imageShownWherePicture': 'Le calque se voit là où l’image est vide. Il n’en fait pas partie, et n’est pas enregistré.',
+  'import.imageShownWherePicture':
+      'Le calque se voit là où l’image est vide. Il n’en fait pas partie, et n’est pas enregistré.',
   'import.noImage': 'ce n’est pas une image',
   // ---- export
-  'export.sheetRowsColumns': 'Feuille {at} sur {count} : lignes {top} à {bottom}, colonnes {left} à {right}',
+  'export.sheetRowsColumns':
+      'Feuille {at} sur {count} : lignes {top} à {bottom}, colonnes {left} à {right}',
   'export.solution': '{title} : solution',
   'export.background': 'fond : {names}',
   'export.by': 'par {author}',
   'export.browserMadeNoPng': 'Le navigateur n’a pu en faire un PNG.',
-  'export.coloursPuzzleCannotTold': '{near} Avec ces couleurs, on ne peut distinguer les indices : changez une couleur, ou imprimez la grille avec des lettres.',
+  'export.coloursPuzzleCannotTold':
+      '{near} Avec ces couleurs, on ne peut distinguer les indices : changez une couleur, ou imprimez la grille avec des lettres.',
   'export.title': 'Titre',
   'export.sheetTitle': 'Titre sur la feuille',
   'export.author': 'Auteur',
@@ -721,17 +820,21 @@ export const FR = /** @type {const} */ ({
   'export.putGradeIntoDescription': 'Mettre la difficulté dans la présentation',
   'export.gradeLine': 'Difficulté : {word}',
   'export.aboutPuzzle': 'Titre, auteur et textes',
-  'export.otherPictureOpened': 'Une autre image a été ouverte entre-temps. Ce que vous aviez commencé avec la précédente a été abandonné.',
+  'export.otherPictureOpened':
+      'Une autre image a été ouverte entre-temps. Ce que vous aviez commencé avec la précédente a été abandonné.',
   'export.titleAuthor': 'Titre et auteur …',
   'export.webpbnXml': 'Web Paint-by-Number (XML)',
   'export.pngPixelCell': 'Image (PNG), un pixel par case',
   'export.plainPpm': 'PPM simple',
   'export.nonTwoColours': '.non (deux couleurs)',
   'export.pathGif': 'Chemin de résolution (GIF)',
-  'export.pathNeedsOne': 'Seule une grille qui n’a qu’une solution a un chemin de résolution complet.',
-  'export.pathNotWhole': '{name}-path.gif n’a pas été enregistré, car la recherche du chemin de résolution n’est pas allée à son terme.',
+  'export.pathNeedsOne':
+      'Seule une grille qui n’a qu’une solution a un chemin de résolution complet.',
+  'export.pathNotWhole':
+      '{name}-path.gif n’a pas été enregistré, car la recherche du chemin de résolution n’est pas allée à son terme.',
   'export.siteZip': 'Site de jeux (zip)',
-  'export.siteServes': 'Pour un site qui publie votre grille : il vérifie ainsi qu’elle n’a qu’une solution.',
+  'export.siteServes':
+      'Pour un site qui publie votre grille : il vérifie ainsi qu’elle n’a qu’une solution.',
   'export.export': 'Exporter',
   'export.saveExport': 'Enregistrer et exporter',
   'export.savedUnfit': ' Mais la grille n’est pas bonne à publier : {why}.',
@@ -741,9 +844,11 @@ export const FR = /** @type {const} */ ({
   'export.sixByNine': '6 × 9 pouces',
   'export.letters': 'Lettres',
   'export.signs': 'Symboles',
-  'export.anotherPictureSameClues': 'Une autre image a les mêmes indices. « Réparer » dans le menu Vérifier cherche des changements qui ne laissent qu’une solution.',
+  'export.anotherPictureSameClues':
+      'Une autre image a les mêmes indices. « Réparer » dans le menu Vérifier cherche des changements qui ne laissent qu’une solution.',
   'export.notKnownYetWhether': 'On ne sait pas encore si cette image est la seule solution.',
-  'export.sheetsSavedPrintZip': '{sheets|# feuille enregistrée|# de feuilles enregistrées|# feuilles enregistrées} dans « {name}-print.zip ».',
+  'export.sheetsSavedPrintZip':
+      '{sheets|# feuille enregistrée|# de feuilles enregistrées|# feuilles enregistrées} dans « {name}-print.zip ».',
   'export.othersLibrary': 'Avec d’autres de la bibliothèque, dans l’ordre de leurs noms ({count})',
   'export.all': 'toutes',
   'export.solutionsEnd': 'Solutions à la fin',
@@ -754,23 +859,31 @@ export const FR = /** @type {const} */ ({
   'export.marginMm': 'Marge en mm',
   'export.puzzlesSheet': 'Grilles par feuille',
   'export.coloursShown': 'Montrer les couleurs par',
-  'export.goesOverSheetsMap': 'Il faut {sheets|# feuille|# de feuilles|# feuilles}, avec un plan des feuilles sur chacune.',
-  'export.mostSheets': 'Il y a {sheets|# feuille|# de feuilles|# feuilles} ; au plus {most} s’impriment ou s’enregistrent à la fois. Choisissez moins de grilles, ou plus de grilles par feuille.',
+  'export.goesOverSheetsMap':
+      'Il faut {sheets|# feuille|# de feuilles|# feuilles}, avec un plan des feuilles sur chacune.',
+  'export.mostSheets':
+      'Il y a {sheets|# feuille|# de feuilles|# feuilles} ; au plus {most} s’impriment ou s’enregistrent à la fois. Choisissez moins de grilles, ou plus de grilles par feuille.',
   'export.soSheetLettersSigns': '{near} La feuille a donc des lettres ou des symboles.',
-  'export.tintsAlike': 'Les indices de {pair} se ressemblent sur papier : « Lettres » les distingue.',
+  'export.tintsAlike':
+      'Les indices de {pair} se ressemblent sur papier : « Lettres » les distingue.',
   'export.print': 'Imprimer',
   'export.saveSvg': 'Enregistrer en SVG',
   'export.saveSvgs': 'Enregistrer les feuilles en SVG (zip)',
   'export.printLettersSigns': '« {name} » : {near} Imprimez-la avec des lettres ou des symboles.',
-  'export.smallestNumbersMmHigh': 'Les plus petits nombres ont {value} mm de haut : un papier plus grand, moins de grilles par feuille, ou des couleurs au lieu de lettres et de symboles les agrandissent.',
-  'export.smallestCellsMmWide': 'Les plus petites cases ont {value} mm de large : un papier plus grand ou moins de grilles par feuille les agrandissent.',
+  'export.smallestNumbersMmHigh':
+      'Les plus petits nombres ont {value} mm de haut : un papier plus grand, moins de grilles par feuille, ou des couleurs au lieu de lettres et de symboles les agrandissent.',
+  'export.smallestCellsMmWide':
+      'Les plus petites cases ont {value} mm de large : un papier plus grand ou moins de grilles par feuille les agrandissent.',
   'export.solve': 'pour la résoudre',
   'export.edit': 'pour la modifier',
   'export.htmlSite': 'en HTML pour un site',
   'export.htmlHolds': 'Le HTML montre la grille dans un cadre de votre site, à résoudre.',
-  'export.pageOpenedFromFile': 'Cette page vient d’un fichier. Indiquez l’adresse où vous la publiez, sinon le lien ne marche que sur cet ordinateur.',
-  'export.linkHoldsSolutionThough': 'Le lien contient la solution, même si le lecteur ne la montre pas.',
-  'export.linkCharactersSomePrograms': 'Le lien a {count} caractères. Certains programmes coupent les liens au-delà de {long}.',
+  'export.pageOpenedFromFile':
+      'Cette page vient d’un fichier. Indiquez l’adresse où vous la publiez, sinon le lien ne marche que sur cet ordinateur.',
+  'export.linkHoldsSolutionThough':
+      'Le lien contient la solution, même si le lecteur ne la montre pas.',
+  'export.linkCharactersSomePrograms':
+      'Le lien a {count} caractères. Certains programmes coupent les liens au-delà de {long}.',
   'export.browserDidNotCopy': 'Le navigateur ne l’a pas copié. Il est sélectionné : tapez Ctrl+C.',
   'export.linkCopied': 'Le lien est copié.',
   'export.linkCopiedHere': 'Le lien est copié. Il ne marche que sur cet ordinateur.',
@@ -781,7 +894,8 @@ export const FR = /** @type {const} */ ({
   'export.share': 'Partager',
   'export.copy': 'Copier',
   'export.shareLink': 'Partager un lien …',
-  'export.shareHolds': 'Contient toute la grille dans une adresse, à résoudre ou à modifier, ou en HTML pour un site.',
+  'export.shareHolds':
+      'Contient toute la grille dans une adresse, à résoudre ou à modifier, ou en HTML pour un site.',
   // ---- start
   'start.justNow': 'à l’instant',
   'start.newestFirst': 'Les plus récentes d’abord',
@@ -794,7 +908,8 @@ export const FR = /** @type {const} */ ({
   'start.showPictures': 'Montrer {pictures|# image de plus|# d’images de plus|# images de plus}',
   'start.noPictureMatches': 'Aucune image ne correspond à « {wanted} ».',
   'start.browserRoomMore': ' ; le navigateur a encore de la place pour {max}',
-  'start.picturesBrowserTheyStay': '{pictures|# image|# d’images|# images} dans ce navigateur, {bytes}{room}. Le navigateur peut les perdre : enregistrez ce qui compte dans un fichier.',
+  'start.picturesBrowserTheyStay':
+      '{pictures|# image|# d’images|# images} dans ce navigateur, {bytes}{room}. Le navigateur peut les perdre : enregistrez ce qui compte dans un fichier.',
   'start.openHere': 'ouverte ici',
   'start.notFile': 'pas dans un fichier',
   'start.moreFor': 'Plus pour {name}',
@@ -805,17 +920,22 @@ export const FR = /** @type {const} */ ({
   'start.deleted': '{what} : supprimé.',
   'start.broughtBack': '{what} : de retour.',
   'start.openElsewhere': 'Ce qui est ouvert dans un autre onglet n’a pas été supprimé.',
-  'start.browserNoRoomLeft': 'Le navigateur n’a plus de place pour cette page. Choisissez les images qui peuvent être supprimées, ou fermez ceci et enregistrez votre travail dans un fichier.',
-  'start.picturesNotSaved': '{pictures|# image choisie|# d’images choisies|# images choisies} {pictures|n’a pas été enregistrée|n’ont pas été enregistrées|n’ont pas été enregistrées}. Une suppression est définitive.',
+  'start.browserNoRoomLeft':
+      'Le navigateur n’a plus de place pour cette page. Choisissez les images qui peuvent être supprimées, ou fermez ceci et enregistrez votre travail dans un fichier.',
+  'start.picturesNotSaved':
+      '{pictures|# image choisie|# d’images choisies|# images choisies} {pictures|n’a pas été enregistrée|n’ont pas été enregistrées|n’ont pas été enregistrées}. Une suppression est définitive.',
   'start.chooseLeastOnePicture': 'Choisissez au moins une image.',
   'start.makeRoom': 'Faire de la place',
   'start.new': 'Nouveau',
   'start.startPainting': 'Commencer à peindre',
   'start.newName': 'image',
   'start.openPicture': 'Ouvrir une image',
-  'start.dropFileHerePaste': 'Déposez des fichiers ici, collez une image (Ctrl+V) ou choisissez des fichiers. Plusieurs sont listés dans un tableau avec leurs verdicts.',
-  'start.tapToChoose': 'Touchez « Choisir des fichiers … ». Plusieurs sont listés dans un tableau avec leurs verdicts.',
-  'start.pngJpegGifWebp': 'Une photo ou un dessin (PNG, JPEG, GIF, WebP, BMP, AVIF, SVG) devient une grille. PPM, .non et le XML de Web Paint-by-Number s’ouvrent tels quels. Les images d’un zip enregistré vont dans la bibliothèque, et un certificat est vérifié avec l’image ouverte.',
+  'start.dropFileHerePaste':
+      'Déposez des fichiers ici, collez une image (Ctrl+V) ou choisissez des fichiers. Plusieurs sont listés dans un tableau avec leurs verdicts.',
+  'start.tapToChoose':
+      'Touchez « Choisir des fichiers … ». Plusieurs sont listés dans un tableau avec leurs verdicts.',
+  'start.pngJpegGifWebp':
+      'Une photo ou un dessin (PNG, JPEG, GIF, WebP, BMP, AVIF, SVG) devient une grille. PPM, .non et le XML de Web Paint-by-Number s’ouvrent tels quels. Les images d’un zip enregistré vont dans la bibliothèque, et un certificat est vérifié avec l’image ouverte.',
   'start.chooseFile': 'Choisir des fichiers …',
   'start.balloon': 'ballon',
   'start.heart': 'cœur',
@@ -824,18 +944,22 @@ export const FR = /** @type {const} */ ({
   'start.mendExample': 'deux solutions, à réparer',
   'start.examples': 'Exemples',
   'start.back': 'Retour à {name}',
-  'start.drawPictureOpenOne': 'Dessinez une image ou ouvrez-en une. Vous voyez ses indices, et s’ils n’ont qu’une solution. Puis exportez la grille, ou imprimez-la.',
+  'start.drawPictureOpenOne':
+      'Dessinez une image ou ouvrez-en une. Vous voyez ses indices, et s’ils n’ont qu’une solution. Puis exportez la grille, ou imprimez-la.',
   'start.newOpen': 'Nouveau ou ouvrir …',
   'start.openFile': 'Ouvrir des fichiers …',
   'start.linkCouldNotOpened': 'Le lien n’a pu être ouvert : {fault}',
   'start.dialogCloses': 'La boîte de dialogue ouverte se ferme, et ce qui y a été fait est perdu.',
   'start.changeLanguage': 'Changer de langue',
-  'start.languageLoses': 'La page redémarre dans l’autre langue. Votre image reste, avec ses annulations ; le calque est perdu.',
-  'start.languageNotKept': 'Le navigateur ne garde pas votre image, la page reste donc comme elle est. Enregistrez l’image dans un fichier et rechargez la page : elle aura alors l’autre langue.',
+  'start.languageLoses':
+      'La page redémarre dans l’autre langue. Votre image reste, avec ses annulations ; le calque est perdu.',
+  'start.languageNotKept':
+      'Le navigateur ne garde pas votre image, la page reste donc comme elle est. Enregistrez l’image dans un fichier et rechargez la page : elle aura alors l’autre langue.',
   // ---- main
   'main.fit': 'Ajuster',
   'main.engineRestartedNothingLost': 'Le moteur a redémarré. Rien n’est perdu.',
-  'main.engineCouldNotStarted': 'Le moteur n’a pu démarrer ({text}). Enregistrez l’image et rechargez la page.',
+  'main.engineCouldNotStarted':
+      'Le moteur n’a pu démarrer ({text}). Enregistrez l’image et rechargez la page.',
   'main.menus': 'Menus de la page',
   'main.historyView': 'Historique et vue',
   'main.start': 'Accueil',

@@ -1,31 +1,69 @@
-// Actions: what can be done, each with a name, a key and a place in a menu or panel. Keys work where no field is typed in.
+// Actions: what can be done, each with a name, a key and a place in a menu or panel. Keys work
+// where no field is typed in.
 
-import { $, make, say } from '../base/elements.js';
-import { on } from '../base/events.js';
-import { bench } from '../engine/bench.js';
-import { phrase } from '../texts/phrase.js';
+import {$, make, say} from '../base/elements.js';
+import {on} from '../base/events.js';
+import {bench} from '../engine/bench.js';
+import {phrase} from '../texts/phrase.js';
 
 export const actions = new Map();
-const HEADS = { export: phrase('export.export') }; // of groups in a menu
-const MENUS = { file: phrase('view.file'), edit: phrase('view.edit'), picture: phrase('view.picture'), view: phrase('view.view'), check: phrase('view.check'), help: phrase('view.help') };
+const HEADS = {
+  export: phrase('export.export')
+};  // of groups in a menu
+const MENUS = {
+  file: phrase('view.file'),
+  edit: phrase('view.edit'),
+  picture: phrase('view.picture'),
+  view: phrase('view.view'),
+  check: phrase('view.check'),
+  help: phrase('view.help')
+};
 
 /**
- * Adds an action. `id` names it; `name` is what the user reads; `key` as in 'Ctrl+Z', 'n' or 'Shift+ArrowUp'; `place` is a
- * menu ('file', 'edit', 'picture', 'view', 'check', 'help'), the id of an element that takes a button, or null for a key
- * alone; `told` is a key that the menu tells and the browser hears; `run(event)` does it; `can()` says whether it can be done now; `needs`
- * is false where no picture must be open; `isOn()` says whether it is ticked in a menu; `hint` says more of it below its name in a menu, and where the mouse rests.
+ * Adds an action. `id` names it; `name` is what the user reads; `key` as in 'Ctrl+Z', 'n' or
+ * 'Shift+ArrowUp'; `place` is a menu ('file', 'edit', 'picture', 'view', 'check', 'help'), the id
+ * of an element that takes a button, or null for a key alone; `told` is a key that the menu tells
+ * and the browser hears; `run(event)` does it; `can()` says whether it can be done now; `needs` is
+ * false where no picture must be open; `isOn()` says whether it is ticked in a menu; `hint` says
+ * more of it below its name in a menu, and where the mouse rests.
  */
-export function addAction({ id, name, key = null, told = key ?? '', place = null, run, can = () => true, needs = true, isOn = () => false, group = '', hint = null }) {
-  const action = { id: id ?? name, name, key, told, place, run, group, needs, isOn, hint, can: () => (!needs || bench.state !== null) && can() };
+export function addAction({
+  id,
+  name,
+  key = null,
+  told = key ?? '',
+  place = null,
+  run,
+  can = () => true,
+  needs = true,
+  isOn = () => false,
+  group = '',
+  hint = null
+}) {
+  const action = {
+    id: id ?? name,
+    name,
+    key,
+    told,
+    place,
+    run,
+    group,
+    needs,
+    isOn,
+    hint,
+    can: () => (!needs || bench.state !== null) && can()
+  };
   actions.set(action.id, action);
   if (place && !MENUS[place]) $(place)?.append(actionButton(action));
   return action;
 }
 
-export const isCovered = () => document.body.classList.contains('starting'); // by the start screen
+export const isCovered = () => document.body.classList.contains('starting');  // by the start screen
 
-// Whether an action can be done now. A picture that the start screen covers is saved and exported, and no more is done to it.
-const isFree = (action) => action.can() && !(action.needs && action.place !== 'file' && isCovered());
+// Whether an action can be done now. A picture that the start screen covers is saved and exported,
+// and no more is done to it.
+const isFree = (action) =>
+    action.can() && !(action.needs && action.place !== 'file' && isCovered());
 
 /** Runs an action by its id, where it can be done. */
 export function runAction(id, event) {
@@ -35,9 +73,9 @@ export function runAction(id, event) {
 
 /** Says a text, with a button for an action where it can be done; the next stroke takes it back. */
 export function sayWith(text, kind, id) {
-  const { name, can } = actions.get(id);
+  const {name, can} = actions.get(id);
   if (!can()) return say(text, kind);
-  const unsay = say(text, kind, { name, run: () => runAction(id) });
+  const unsay = say(text, kind, {name, run: () => runAction(id)});
   const end = on('stroke', () => {
     end();
     unsay();
@@ -45,14 +83,31 @@ export function sayWith(text, kind, id) {
 }
 
 export function actionButton(action, attributes = {}) {
-  const button = make('button', { type: 'button', 'data-action': action.id, title: action.hint, 'aria-keyshortcuts': action.key ? ariaKey(action.key) : null, ...attributes }, action.name);
+  const button = make(
+      'button',
+      {
+        type: 'button',
+        'data-action': action.id,
+        title: action.hint,
+        'aria-keyshortcuts': action.key ? ariaKey(action.key) : null,
+        ...attributes
+      },
+      action.name
+  );
   button.addEventListener('click', (event) => runAction(action.id, event));
   return button;
 }
 
 const KEY_NAMES = {
-  Ctrl: phrase('view.keyCtrl'), Shift: phrase('view.keyShift'), ArrowUp: '↑', ArrowDown: '↓', ArrowLeft: '←', ArrowRight: '→',
-  Enter: phrase('view.keyEnter'), Escape: phrase('view.keyEscape'), Delete: phrase('view.keyDelete'),
+  Ctrl: phrase('view.keyCtrl'),
+  Shift: phrase('view.keyShift'),
+  ArrowUp: '↑',
+  ArrowDown: '↓',
+  ArrowLeft: '←',
+  ArrowRight: '→',
+  Enter: phrase('view.keyEnter'),
+  Escape: phrase('view.keyEscape'),
+  Delete: phrase('view.keyDelete'),
 };
 
 /** A key as keyboards of the language have it. */
@@ -62,20 +117,38 @@ const ariaKey = (key) => key.replace('Ctrl', 'Control');
 
 /** The name of a pressed key, as actions have it. */
 function keyName(event) {
-  const key = event.key === ' ' ? 'Space' : event.key.length === 1 ? (event.ctrlKey || event.metaKey ? event.key.toUpperCase() : event.key) : event.key;
+  const key = event.key === ' ' ?
+      'Space' :
+      event.key.length === 1 ?
+      (event.ctrlKey || event.metaKey ? event.key.toUpperCase() : event.key) :
+      event.key;
   const modified = key.length > 1 || event.ctrlKey || event.metaKey;
-  return [(event.ctrlKey || event.metaKey) && 'Ctrl', event.altKey && 'Alt', event.shiftKey && modified && 'Shift', key].filter(Boolean).join('+');
+  return [
+    (event.ctrlKey || event.metaKey) && 'Ctrl',
+    event.altKey && 'Alt',
+    event.shiftKey && modified && 'Shift',
+    key
+  ].filter(Boolean
+  ).join('+');
 }
 
 /** Whether an element takes text itself. */
-export const isTyping = (target) => target?.matches?.('input:not([type=checkbox]):not([type=radio]):not([type=button]):not([type=range]), textarea, [contenteditable]') ?? false;
+export const isTyping = (target) =>
+    target?.matches?.(
+        'input:not([type=checkbox]):not([type=radio]):not([type=button]):not([type=range]), textarea, [contenteditable]'
+    ) ??
+    false;
 
-/** Whether an element takes plain keys itself: a field of text does, and a choice, in which letters look for an option. */
+/**
+ * Whether an element takes plain keys itself: a field of text does, and a choice, in which letters
+ * look for an option.
+ */
 export const takesKeys = (target) => isTyping(target) || (target?.matches?.('select') ?? false);
 
 function actionOfKey(event) {
   const name = keyName(event);
-  for (const action of actions.values()) if (action.key && action.key.split(' ').includes(name)) return action;
+  for (const action of actions.values())
+    if (action.key && action.key.split(' ').includes(name)) return action;
   return null;
 }
 
@@ -84,8 +157,15 @@ const FREE_ITEM = 'button:not([aria-disabled="true"])';
 /** Makes the menus of the header, filled anew each time that one is opened. */
 export function makeMenus() {
   for (const [place, name] of Object.entries(MENUS)) {
-    const list = make('div', { id: `menu-${place}`, role: 'menu', class: 'menu', 'aria-label': name, popover: 'auto' });
-    const button = make('button', { type: 'button', 'aria-haspopup': 'menu', popovertarget: list.id, 'aria-expanded': 'false' }, name);
+    const list = make(
+        'div',
+        {id: `menu-${place}`, role: 'menu', class: 'menu', 'aria-label': name, popover: 'auto'}
+    );
+    const button = make(
+        'button',
+        {type: 'button', 'aria-haspopup': 'menu', popovertarget: list.id, 'aria-expanded': 'false'},
+        name
+    );
     list.addEventListener('beforetoggle', (event) => {
       button.setAttribute('aria-expanded', event.newState === 'open');
       if (event.newState === 'open') fillMenu(list, place, button);
@@ -103,25 +183,39 @@ function fillMenu(list, place, button) {
   let group = null;
   for (const action of actions.values()) {
     if (action.place !== place) continue;
-    if (group !== null && group !== action.group) items.push(make('hr', { role: 'separator' }), ...(HEADS[action.group] ? [make('h2', { role: 'presentation' }, HEADS[action.group])] : []));
-    ({ group } = action);
-    const item = actionButton(action, { role: 'menuitem', tabindex: '-1' });
+    if (group !== null && group !== action.group)
+      items.push(
+          make('hr', {role: 'separator'}),
+          ...(HEADS[action.group] ? [make('h2', {role: 'presentation'}, HEADS[action.group])] : [])
+      );
+    ({group} = action);
+    const item = actionButton(action, {role: 'menuitem', tabindex: '-1'});
     if (action.isOn()) item.textContent += ' ✓';
     const free = isFree(action);
-    if (!free) item.setAttribute('aria-disabled', 'true'); // it keeps the focus, and with it the keys of the menu
-    item.append(make('kbd', {}, keyText(action.told.split(' ')[0])), ...(action.hint ? [make('small', { class: 'faint', 'aria-hidden': 'true' }, action.hint)] : [])); // heard by its title
-    item.addEventListener('click', () => { if (free) list.hidePopover(); });
+    if (!free)
+      item.setAttribute(
+          'aria-disabled', 'true'
+      );  // it keeps the focus, and with it the keys of the menu
+    item.append(
+        make('kbd', {}, keyText(action.told.split(' ')[0])),
+        ...(action.hint ? [make('small', {class: 'faint', 'aria-hidden': 'true'}, action.hint)] : []
+        )
+    );  // heard by its title
+    item.addEventListener('click', () => {
+      if (free) list.hidePopover();
+    });
     items.push(item);
   }
   list.replaceChildren(...items);
-  const box = (button.offsetParent ? button : $('help-open')).getBoundingClientRect(); // on a phone Help opens from beside the verdict
+  const box = (button.offsetParent ? button : $('help-open')
+  ).getBoundingClientRect();  // on a phone Help opens from beside the verdict
   list.style.left = `${Math.max(4, Math.min(box.left, innerWidth - 260))}px`;
   list.style.top = `${box.bottom + 4}px`;
 }
 
 /** Hears the keys of a menu: arrows go to its entries, Escape back to its button. */
 export function menuKey(event, list, button) {
-  const way = { ArrowDown: 1, ArrowUp: -1 }[event.key];
+  const way = {ArrowDown: 1, ArrowUp: -1}[event.key];
   if (event.key === 'Escape' || event.key === 'Tab') {
     list.hidePopover();
     if (event.key === 'Escape') button.focus();
@@ -155,7 +249,13 @@ export function hearKeys() {
   });
   // What was chosen with the mouse lets the keys go to the picture again.
   let isByPointer = false;
-  addEventListener('pointerdown', () => { isByPointer = true; }, true);
-  addEventListener('keydown', () => { isByPointer = false; }, true);
-  addEventListener('change', (/** @type {any} */ event) => { if (isByPointer && event.target.matches('#work select')) event.target.blur(); });
+  addEventListener('pointerdown', () => {
+    isByPointer = true;
+  }, true);
+  addEventListener('keydown', () => {
+    isByPointer = false;
+  }, true);
+  addEventListener('change', (/** @type {any} */ event) => {
+    if (isByPointer && event.target.matches('#work select')) event.target.blur();
+  });
 }

@@ -1,79 +1,129 @@
-// Fix it, below the picture: proposals of cells to repaint, to give, or some of both, until the picture needs no guessing or is at least
-// the only solution, or has a grade that is aimed for. They are seen side by side, place by place; one click takes one, and one undo takes it back.
+// Fix it, below the picture: proposals of cells to repaint, to give, or some of both, until the
+// picture needs no guessing or is at least the only solution, or has a grade that is aimed for.
+// They are seen side by side, place by place; one click takes one, and one undo takes it back.
 
-import { $, buttonOf, choiceOf, make, say } from '../base/elements.js';
-import { on, tell } from '../base/events.js';
-import { gradeName } from '../base/names.js';
-import { number } from '../base/words.js';
-import { placeOf, sameBenchPart } from '../document/document.js';
-import { LETTERS } from '../document/limits.js';
-import { cellsThatDiffer } from '../document/shapes.js';
-import { sheet } from '../draw/sheet.js';
-import { bench } from '../engine/bench.js';
-import { LINE_WORDS } from '../repair/aiming.js';
-import { phrase } from '../texts/phrase.js';
-import { boardOf, limitChoices, showLocks } from './locking.js';
-import { listProposals, placeText } from './proposals.js';
-import { bySize, ideas, keyOf, mirrorOf, seenOf, sizeOf } from './ranking.js';
-import { setDown } from './select.js';
-import { searches, secondsChosen, verdictView } from './verdict.js';
+import {$, buttonOf, choiceOf, make, say} from '../base/elements.js';
+import {on, tell} from '../base/events.js';
+import {gradeName} from '../base/names.js';
+import {number} from '../base/words.js';
+import {placeOf, sameBenchPart} from '../document/document.js';
+import {LETTERS} from '../document/limits.js';
+import {cellsThatDiffer} from '../document/shapes.js';
+import {sheet} from '../draw/sheet.js';
+import {bench} from '../engine/bench.js';
+import {LINE_WORDS} from '../repair/aiming.js';
+import {phrase} from '../texts/phrase.js';
+import {boardOf, limitChoices, showLocks} from './locking.js';
+import {listProposals, placeText} from './proposals.js';
+import {bySize, ideas, keyOf, mirrorOf, seenOf, sizeOf} from './ranking.js';
+import {setDown} from './select.js';
+import {searches, secondsChosen, verdictView} from './verdict.js';
 
 const GOALS = [['lines', phrase('view.noGuessing')], ['unique', phrase('view.oneSolution')]];
-const GRADES = LINE_WORDS.map((word) => [word, phrase('view.aGrade', { grade: gradeName(word) })]);
-const UNCHOSEN = ''; // a grade that is to be chosen
+const GRADES = LINE_WORDS.map((word) => [word, phrase('view.aGrade', {grade: gradeName(word)})]);
+const UNCHOSEN = '';  // a grade that is to be chosen
 const isGrade = (goal) => goal === UNCHOSEN || LINE_WORDS.includes(goal);
 const MOST_SHOWN = 24;
-const MOST_OF_ALL = 4; // proposals for all places together, where each is mended by itself
+const MOST_OF_ALL = 4;  // proposals for all places together, where each is mended by itself
 const MOST_MIXED = 2;
-const QUICK = 0.2; // seconds for given cells before repaints are looked for; where that is too short there is more time behind them
-const FEW = 8; // cells: what needs more is too loose
-const FALLBACK = 1.5; // seconds for one solution, where no guessing is not to be had
-const MIRRORED = 0.7; // seconds for repairs that keep both halves of a picture alike
-const REST = 400; // milliseconds between a stroke and the search for what mends it, while proposals are shown
+const QUICK = 0.2;     // seconds for given cells before repaints are looked for; where that is too
+                       // short there is more time behind them
+const FEW = 8;         // cells: what needs more is too loose
+const FALLBACK = 1.5;  // seconds for one solution, where no guessing is not to be had
+const MIRRORED = 0.7;  // seconds for repairs that keep both halves of a picture alike
+const REST = 400;      // milliseconds between a stroke and the search for what mends it, while
+                       // proposals are shown
 const NO_PLACES = [];
-const MOST_SECONDS = 2; // for the grade of a picture that is aimed for
-const SPARE = 5; // seconds that a search in the worker has left to end by itself
-const howToSee = () => (matchMedia('(hover: hover)').matches ? phrase('view.pointToSee') : phrase('view.holdToSee'));
+const MOST_SECONDS = 2;  // for the grade of a picture that is aimed for
+const SPARE = 5;         // seconds that a search in the worker has left to end by itself
+const howToSee = () =>
+    (matchMedia('(hover: hover)').matches ? phrase('view.pointToSee') : phrase('view.holdToSee'));
 const LONGER = phrase('view.longerSearchTimeMay');
 const LOOSE = phrase('view.pictureTooLooseBolder');
 
-// What was found, for which picture (`of`) and goal (`by`), and what was asked for. It stays while a proposal is tried: an undo shows the list again.
-const fixing = { goal: 'lines', by: 'lines', of: null, found: [], kept: new Set(), places: NO_PLACES, near: null, said: '', frame: 0, shown: null, taken: null, isWanted: false, turn: 0, waits: 0 };
-const isOfThis = () => fixing.of !== null && bench.state !== null && sameBenchPart(fixing.of, bench.state);
+// What was found, for which picture (`of`) and goal (`by`), and what was asked for. It stays while
+// a proposal is tried: an undo shows the list again.
+const fixing = {
+  goal: 'lines',
+  by: 'lines',
+  of: null,
+  found: [],
+  kept: new Set(),
+  places: NO_PLACES,
+  near: null,
+  said: '',
+  frame: 0,
+  shown: null,
+  taken: null,
+  isWanted: false,
+  turn: 0,
+  waits: 0
+};
+const isOfThis = () =>
+    fixing.of !== null && bench.state !== null && sameBenchPart(fixing.of, bench.state);
 
 /** Whether there is something to mend. */
-export const canFix = () => bench.state !== null && (bench.state.verdict.word !== 'unique' || bench.state.open > 0);
+export const canFix = () =>
+    bench.state !== null && (bench.state.verdict.word !== 'unique' || bench.state.open > 0);
 
 /** Whether the panel has something to do: a grade may be aimed for by any picture. */
 export const mayFix = () => canFix() || (bench.state !== null && isGrade(fixing.goal));
 
 /** Opens the panel for what is to be mended, or for a grade that is to be chosen. */
 export function openFix(isAim = false) {
-  if (isAim) fixing.goal = UNCHOSEN;
-  else if (bench.state.verdict.word === 'unique' || isGrade(fixing.goal)) fixing.goal = 'lines';
+  if (isAim)
+    fixing.goal = UNCHOSEN;
+  else if (bench.state.verdict.word === 'unique' || isGrade(fixing.goal))
+    fixing.goal = 'lines';
   if (!mayFix()) return;
   fixing.isWanted = true;
   $('fix').hidden = false;
   $('fix').replaceChildren(
-    make('div', { class: 'group' },
-      make('h2', {}, isAim ? phrase('view.aimTitle') : phrase('view.fixTitle')), make('label', {}, phrase('view.until'), choiceOf({ id: 'fix-goal', onchange: (event) => aimFor(event.target.value) }, [...(isAim ? [[UNCHOSEN, phrase('view.chooseGrade')]] : []), ...(canFix() ? GOALS : []), ...GRADES], fixing.goal)),
-      buttonOf('fix-paint', phrase('view.findCellsRepaint'), findRepairs), buttonOf('fix-give', phrase('view.giveCells'), giveCells), buttonOf('fix-close', phrase('view.close'), closeFix)),
-    make('p', { id: 'fix-said', role: 'status' }),
-    make('div', { id: 'fix-list', role: 'group', 'aria-label': phrase('view.proposals') }),
-    make('details', { id: 'fix-more' }, make('summary', {}, phrase('view.whatMayRepainted')), ...limitChoices(fixSays)),
+      make(
+          'div',
+          {class: 'group'},
+          make('h2', {}, isAim ? phrase('view.aimTitle') : phrase('view.fixTitle')),
+          make(
+              'label',
+              {},
+              phrase('view.until'),
+              choiceOf(
+                  {id: 'fix-goal', onchange: (event) => aimFor(event.target.value)},
+                  [
+                    ...(isAim ? [[UNCHOSEN, phrase('view.chooseGrade')]] : []),
+                    ...(canFix() ? GOALS : []),
+                    ...GRADES
+                  ],
+                  fixing.goal
+              )
+          ),
+          buttonOf('fix-paint', phrase('view.findCellsRepaint'), findRepairs),
+          buttonOf('fix-give', phrase('view.giveCells'), giveCells),
+          buttonOf('fix-close', phrase('view.close'), closeFix)
+      ),
+      make('p', {id: 'fix-said', role: 'status'}),
+      make('div', {id: 'fix-list', role: 'group', 'aria-label': phrase('view.proposals')}),
+      make(
+          'details',
+          {id: 'fix-more'},
+          make('summary', {}, phrase('view.whatMayRepainted')),
+          ...limitChoices(fixSays)
+      ),
   );
   $('fix-give').hidden = isGrade(fixing.goal);
   showLocks();
   showFound();
   tell('fixing', true);
-  $(isAim ? 'fix-goal' : 'fix-paint').focus({ preventScroll: true });
-  if (isOfThis() && fixing.by === fixing.goal && fixing.found.length) fixSays(fixing.said);
-  else findRepairs();
+  $(isAim ? 'fix-goal' : 'fix-paint').focus({preventScroll: true});
+  if (isOfThis() && fixing.by === fixing.goal && fixing.found.length)
+    fixSays(fixing.said);
+  else
+    findRepairs();
 }
 
 function aimFor(goal) {
   fixing.goal = goal;
-  $('fix-give').hidden = isGrade(goal); // one given cell is among what is found
+  $('fix-give').hidden = isGrade(goal);  // one given cell is among what is found
   findRepairs();
 }
 
@@ -96,114 +146,172 @@ function closeFix() {
   hideFix();
 }
 
-const fixSays = (text) => { if ($('fix-said')) $('fix-said').textContent = text; };
+const fixSays = (text) => {
+  if ($('fix-said')) $('fix-said').textContent = text;
+};
 
 // Runs a call of the worker on the picture at hand; null where another picture is shown by then.
 async function searched(name, work) {
   setDown();
   await bench.rest();
-  const { state } = bench;
+  const {state} = bench;
   fixSays('');
   verdictView.ended = null;
-  const { version } = searches;
+  const {version} = searches;
   const done = await searches.job(name, secondsChosen() + SPARE, (copy) => work(copy, state));
-  return version === searches.version && bench.state ? { done, state } : null;
+  return version === searches.version && bench.state ? {done, state} : null;
 }
 
 // Gives the fewest cells that suffice, as one stroke.
 async function giveCells() {
-  const { goal } = Object.assign(fixing, { turn: fixing.turn + 1 });
-  const run = await searched(phrase('view.lookingCellsGive'), (copy, state) => copy.work('give', { board: boardOf(state), goal, seconds: secondsChosen() }, ({ found }) => {
-    copy.found = found;
-    copy.note(phrase('view.cellsSuffice', { cells: found.given.length }));
-  }));
+  const {goal} = Object.assign(fixing, {turn: fixing.turn + 1});
+  const run = await searched(
+      phrase('view.lookingCellsGive'),
+      (copy, state) => copy.work(
+          'give',
+          {board: boardOf(state), goal, seconds: secondsChosen()},
+          ({found}) => {
+            copy.found = found;
+            copy.note(phrase('view.cellsSuffice', {cells: found.given.length}));
+          }
+      )
+  );
   if (!run) return;
-  if (!run.done?.given) return fixSays(verdictView.ended === 'stopped' ? phrase('view.stoppedBeforeThereCells') : phrase('view.noCellsFoundTime', { longer: LONGER }));
+  if (!run.done?.given)
+    return fixSays(
+        verdictView.ended === 'stopped' ? phrase('view.stoppedBeforeThereCells') :
+                                          phrase('view.noCellsFoundTime', {longer: LONGER})
+    );
   if (!run.done.given.length) return fixSays(phrase('view.oneSolutionThere'));
   await takeGivens(run.state, run.done);
 }
 
-// One stroke of commands; says whether it was made: none is once another picture has come than the one that they are for.
+// One stroke of commands; says whether it was made: none is once another picture has come than the
+// one that they are for.
 async function isMade(state, lines) {
   setDown();
   return (await bench.stroke((doc) => (sameBenchPart(state, doc) ? lines : []))).length > 0;
 }
 
-async function takeGivens(state, { given, isLeast }) {
-  if (await isMade(state, given.map((index) => `pin ${placeOf(state, index)}`))) sayTaken(state, phrase('view.cellsGivenOneUndo', { cells: given.length, isLeast: isLeast ? phrase('view.noFewerDo') : '' }));
+async function takeGivens(state, {given, isLeast}) {
+  if (await isMade(state, given.map((index) => `pin ${placeOf(state, index)}`)))
+    sayTaken(state, phrase('view.cellsGivenOneUndo', {
+               cells: given.length,
+               isLeast: isLeast ? phrase('view.noFewerDo') : ''
+             }));
 }
 
 // Lists proposals, while they are found: the smallest and least seen first.
 async function findRepairs() {
   clearTimeout(fixing.waits);
   const of = fixing.goal === UNCHOSEN ? null : bench.state;
-  Object.assign(fixing, { found: fixing.found.filter((one) => fixing.kept.has(one) && isOfThis()), places: NO_PLACES, near: null, of, by: fixing.goal, said: '', turn: fixing.turn + 1 });
+  Object.assign(fixing, {
+    found: fixing.found.filter((one) => fixing.kept.has(one) && isOfThis()),
+    places: NO_PLACES,
+    near: null,
+    of,
+    by: fixing.goal,
+    said: '',
+    turn: fixing.turn + 1
+  });
   fixSays('');
   showFound();
-  const { goal, turn } = fixing;
-  if (!of || (goal === 'unique' && of.verdict?.word === 'unique')) return fixSays(of ? phrase('view.oneSolutionThere') : '');
-  const part = Math.min(2, secondsChosen() / 4); // of the time, for the givens, and for mixtures
+  const {goal, turn} = fixing;
+  if (!of || (goal === 'unique' && of.verdict?.word === 'unique'))
+    return fixSays(of ? phrase('view.oneSolutionThere') : '');
+  const part = Math.min(2, secondsChosen() / 4);  // of the time, for the givens, and for mixtures
   const run = await searched(phrase('view.lookingRepairs'), async (copy, state) => {
     const board = boardOf(state);
     fixing.of = state;
-    const told = ({ found, nearer, places, placed }) => {
+    const told = ({found, nearer, places, placed}) => {
       if (places) fixing.places = places;
-      if (found ?? placed) add(state, found ?? placed);
-      else if (nearer) fixing.near = { ...nearer, far: farOf(state, goal, nearer), state };
-      else showPlaces();
+      if (found ?? placed)
+        add(state, found ?? placed);
+      else if (nearer)
+        fixing.near = {...nearer, far: farOf(state, goal, nearer), state};
+      else
+        showPlaces();
       copy.note(noteOf());
     };
     const give = async (seconds) => {
-      const given = await copy.work('give', { board, goal, seconds }, () => {});
+      const given = await copy.work('give', {board, goal, seconds}, () => {});
       if (given.given?.length) add(state, given);
       return given.isLeast;
     };
-    if (isGrade(goal)) return copy.work('aim', { board, word: goal, seconds: Math.max(1, secondsChosen() - 1) }, told);
+    if (isGrade(goal))
+      return copy.work('aim', {board, word: goal, seconds: Math.max(1, secondsChosen() - 1)}, told);
     const isLeast = await give(QUICK);
     const mirror = board.mirror ? null : mirrorOf(state.picture);
-    if (mirror) await copy.work('repair', { board: { ...board, mirror }, goal, seconds: MIRRORED }, ({ found }) => found && add(state, found));
-    copy.found = await copy.work('repair', { board, goal, seconds: Math.max(1, secondsChosen() - 2) }, told);
-    if (goal === 'lines' && !(wholes()[0]?.cells.length <= FEW) && state.verdict.word !== 'unique') await copy.work('repair', { board, goal: 'unique', seconds: FALLBACK }, ({ found }) => found && add(state, found));
+    if (mirror)
+      await copy.work(
+          'repair',
+          {board: {...board, mirror}, goal, seconds: MIRRORED},
+          ({found}) => found && add(state, found)
+      );
+    copy.found =
+        await copy.work('repair', {board, goal, seconds: Math.max(1, secondsChosen() - 2)}, told);
+    if (goal === 'lines' && !(wholes()[0]?.cells.length <= FEW) && state.verdict.word !== 'unique')
+      await copy.work(
+          'repair',
+          {board, goal: 'unique', seconds: FALLBACK},
+          ({found}) => found && add(state, found)
+      );
     if (!isLeast) await give(part);
-    const bound = Math.min(...fixing.found.filter((one) => one.state === state && one.place === undefined).map(sizeOf), Infinity);
-    await copy.work('mix', { board, goal, near: copy.found.near, bound, seconds: part }, told);
+    const bound = Math.min(
+        ...fixing.found.filter((one) => one.state === state && one.place === undefined).map(sizeOf),
+        Infinity
+    );
+    await copy.work('mix', {board, goal, near: copy.found.near, bound, seconds: part}, told);
     return copy.found;
   });
   if (run && turn === fixing.turn) tellFound(run.done);
 }
 
-// Looks for what mends another picture. Where it has the grade that was aimed for, the list stays for an undo.
+// Looks for what mends another picture. Where it has the grade that was aimed for, the list stays
+// for an undo.
 async function findAgain() {
-  const [{ goal }, { state }] = [fixing, bench];
-  const said = LINE_WORDS.includes(goal) && state.verdict.word === 'unique' && state.open === 0 ? await searches.assess(MOST_SECONDS) : null;
+  const [{goal}, {state}] = [fixing, bench];
+  const said = LINE_WORDS.includes(goal) && state.verdict.word === 'unique' && state.open === 0 ?
+      await searches.assess(MOST_SECONDS) :
+      null;
   if (state !== bench.state || goal !== fixing.goal) return;
-  if (said?.grade?.word === goal) fixSays(phrase('view.gradeThere', { grade: gradeName(goal) }));
-  else findRepairs();
+  if (said?.grade?.word === goal)
+    fixSays(phrase('view.gradeThere', {grade: gradeName(goal)}));
+  else
+    findRepairs();
 }
 
 function add(state, one) {
-  const isKnown = fixing.found.some((other) => other.place === one.place && other.cells && one.cells && !other.given && !one.given && keyOf(other) === keyOf(one));
-  if (!isKnown) fixing.found.push({ ...one, state, ...seenOf(state, one) });
+  const isKnown = fixing.found.some(
+      (other) => other.place === one.place && other.cells && one.cells && !other.given &&
+          !one.given && keyOf(other) === keyOf(one)
+  );
+  if (!isKnown) fixing.found.push({...one, state, ...seenOf(state, one)});
   if (!fixing.frame) fixing.frame = requestAnimationFrame(showFound);
 }
 
-const repaints = () => fixing.found.filter(({ cells, given }) => cells && !given).sort(bySize);
-const wholes = () => repaints().filter(({ place }) => place === undefined);
-const ofPlace = (at) => repaints().filter(({ place }) => place === at);
-const mixtures = () => fixing.found.filter(({ cells, given }) => cells && given).sort(bySize);
-const givens = () => fixing.found.filter(({ cells }) => !cells).sort((one, other) => other.given.length - one.given.length);
+const repaints = () => fixing.found.filter(({cells, given}) => cells && !given).sort(bySize);
+const wholes = () => repaints().filter(({place}) => place === undefined);
+const ofPlace = (at) => repaints().filter(({place}) => place === at);
+const mixtures = () => fixing.found.filter(({cells, given}) => cells && given).sort(bySize);
+const givens = () => fixing.found.filter(
+                                     ({cells}) => !cells
+).sort((one, other) => other.given.length - one.given.length);
 
 // How far the picture is from the goal, and how far what came nearer, in words.
 function farOf(state, goal, near) {
-  if (goal === 'lines') return phrase('view.cellsGuess', { open: state.open, open2: near.open });
-  const { other } = state.verdict;
-  return phrase('view.otherSolutionsDifferCells', { other: other ? `${number(cellsThatDiffer(state.picture, other).length)} → ` : '', cells: near.differing });
+  if (goal === 'lines') return phrase('view.cellsGuess', {open: state.open, open2: near.open});
+  const {other} = state.verdict;
+  return phrase('view.otherSolutionsDifferCells', {
+    other: other ? `${number(cellsThatDiffer(state.picture, other).length)} → ` : '',
+    cells: near.differing
+  });
 }
 
 // How far a search is, for the line that tells what runs.
 function noteOf() {
   const [best] = [...mixtures(), ...wholes()].sort(bySize);
-  return best ? phrase('view.cells', { cells: sizeOf(best) }) : fixing.near?.far ?? '';
+  return best ? phrase('view.cells', {cells: sizeOf(best)}) : fixing.near?.far ?? '';
 }
 
 function tellFound(done) {
@@ -215,10 +323,14 @@ function tellFound(done) {
 // What came of the search for a grade.
 function aimedText(done) {
   const grade = gradeName(fixing.goal);
-  if (done?.isThere) return phrase('view.gradeThere', { grade });
+  if (done?.isThere) return phrase('view.gradeThere', {grade});
   const count = wholes().length + givens().length;
-  if (!count) return `${phrase('view.noChangeForGrade', { grade })} ${done?.isThrough ? phrase('view.otherwiseForGrade') : LONGER}`;
-  return phrase('view.proposalsFoundChooseOne', { proposals: count, least: '', loose: '', see: howToSee() });
+  if (!count)
+    return `${phrase('view.noChangeForGrade', {grade})} ${
+        done?.isThrough ? phrase('view.otherwiseForGrade') : LONGER}`;
+  return phrase(
+      'view.proposalsFoundChooseOne', {proposals: count, least: '', loose: '', see: howToSee()}
+  );
 }
 
 // What came of the search for repaints. `done` is its result, or null if it was ended before that.
@@ -227,14 +339,23 @@ function foundText(done) {
   const [best] = wholes();
   const [ended, mixed] = [verdictView.ended || !done?.isThrough, mixtures().length];
   if (!best) {
-    const none = phrase('view.noRepaintFound', { ended: ended ? phrase('view.time') : phrase('view.noneUpCellsExists', { cells: done.proved }) });
-    const near = mixed ? phrase('view.whatListedGivesCells') : fixing.near ? phrase('view.whatListedComesNearer') : '';
+    const none = phrase('view.noRepaintFound', {
+      ended: ended ? phrase('view.time') : phrase('view.noneUpCellsExists', {cells: done.proved})
+    });
+    const near = mixed ? phrase('view.whatListedGivesCells') :
+        fixing.near    ? phrase('view.whatListedComesNearer') :
+                         '';
     return `${none}${near} ${ended ? `${LONGER} ` : ''}${LOOSE}`;
   }
   if (best.goal !== fixing.goal && best.open > 0) return phrase('view.onlyOneSolution');
   const least = done?.proved >= best.cells.length - 1 ? phrase('view.noneSmaller') : '';
-  const loose = best.cells.length > FEW ? phrase('view.moreCellsPictureToo', { few: FEW }) : '';
-  return phrase('view.proposalsFoundChooseOne', { proposals: groups().reduce((sum, { items }) => sum + items.length, 0), least, loose, see: howToSee() });
+  const loose = best.cells.length > FEW ? phrase('view.moreCellsPictureToo', {few: FEW}) : '';
+  return phrase('view.proposalsFoundChooseOne', {
+    proposals: groups().reduce((sum, {items}) => sum + items.length, 0),
+    least,
+    loose,
+    see: howToSee()
+  });
 }
 
 // ---- the list
@@ -250,11 +371,14 @@ function showFound() {
     return fixSays('');
   }
   if (![null, fixing.near, ...fixing.found].includes(fixing.shown)) preview(null);
-  if ($('fix-list').querySelector('li :active')) fixing.frame = requestAnimationFrame(showFound); // a press ends where it began
-  else listProposals($('fix-list'), groups(), HEARS);
+  if ($('fix-list').querySelector('li :active'))
+    fixing.frame = requestAnimationFrame(showFound);  // a press ends where it began
+  else
+    listProposals($('fix-list'), groups(), HEARS);
 }
 
-// The places where line solving stalls are marked in the picture, while they are those of the picture.
+// The places where line solving stalls are marked in the picture, while they are those of the
+// picture.
 function showPlaces() {
   const places = isFixing() && isOfThis() ? fixing.places : NO_PLACES;
   if (places === sheet.places) return;
@@ -262,15 +386,31 @@ function showPlaces() {
   sheet.redraw();
 }
 
-// What is shown: repaints of all places, and of each by itself; or what came nearer; then mixtures, and the fewest givens.
+// What is shown: repaints of all places, and of each by itself; or what came nearer; then mixtures,
+// and the fewest givens.
 function groups() {
-  const { places } = fixing;
+  const {places} = fixing;
   const near = !wholes().length && fixing.near ? [fixing.near] : [];
-  const apart = places.length > 1 ? places.map((place, at) => ({ title: phrase('view.placeOnly', { at: at + 1, place: placeText(fixing.of, place[0]) }), items: ideas(ofPlace(at), MOST_SHOWN, fixing.kept) })) : [];
-  const isApart = apart.some(({ items }) => items.length);
-  const all = { title: isApart ? (places.length === 2 ? phrase('view.bothPlaces') : phrase('view.allPlaces', { places: places.length })) : '', items: [...ideas(wholes(), isApart ? MOST_OF_ALL : MOST_SHOWN, fixing.kept), ...near] };
-  const others = { title: phrase('view.givesToo'), items: [...mixtures().slice(0, MOST_MIXED), ...givens().slice(-1)] };
-  return [all, ...apart, others].filter(({ items }) => items.length);
+  const apart = places.length > 1 ?
+      places.map(
+          (place, at) => ({
+            title: phrase('view.placeOnly', {at: at + 1, place: placeText(fixing.of, place[0])}),
+            items: ideas(ofPlace(at), MOST_SHOWN, fixing.kept)
+          })
+      ) :
+      [];
+  const isApart = apart.some(({items}) => items.length);
+  const all = {
+    title: isApart ? (places.length === 2 ? phrase('view.bothPlaces') :
+                                            phrase('view.allPlaces', {places: places.length})) :
+                     '',
+    items: [...ideas(wholes(), isApart ? MOST_OF_ALL : MOST_SHOWN, fixing.kept), ...near]
+  };
+  const others = {
+    title: phrase('view.givesToo'),
+    items: [...mixtures().slice(0, MOST_MIXED), ...givens().slice(-1)]
+  };
+  return [all, ...apart, others].filter(({items}) => items.length);
 }
 
 const keep = (one, is) => (is ? fixing.kept.add(one) : fixing.kept.delete(one));
@@ -278,30 +418,50 @@ const keep = (one, is) => (is ? fixing.kept.add(one) : fixing.kept.delete(one));
 /** Shows a proposal on the sheet, with a frame around each of its cells, or takes that back. */
 function preview(one) {
   if (one === fixing.shown) return;
-  const { cells = [], given = [] } = one ?? {};
-  if (cells.length || fixing.shown?.cells) sheet.preview(cells.length ? new Map(cells.map(({ index, colour }) => [index, LETTERS[colour]])) : null);
-  sheet.framed = [...cells.map(({ index }) => index), ...given];
-  if (one) sheet.reveal(Math.floor(sheet.framed[0] / one.state.columns), sheet.framed[0] % one.state.columns);
+  const {cells = [], given = []} = one ?? {};
+  if (cells.length || fixing.shown?.cells)
+    sheet.preview(
+        cells.length ? new Map(cells.map(({index, colour}) => [index, LETTERS[colour]])) : null
+    );
+  sheet.framed = [...cells.map(({index}) => index), ...given];
+  if (one)
+    sheet.reveal(
+        Math.floor(sheet.framed[0] / one.state.columns), sheet.framed[0] % one.state.columns
+    );
   sheet.redraw();
   fixing.shown = one;
 }
 
 // Says what was taken, until an undo brings the picture back from before.
-const sayTaken = (before, text) => { fixing.taken = { before, unsay: say(text) }; };
+const sayTaken = (before, text) => {
+  fixing.taken = {before, unsay: say(text)};
+};
 
 async function take(one) {
   preview(null);
   if (!one.cells) return takeGivens(one.state, one);
-  const { state, cells, given = [] } = one;
-  const paints = cells.map(({ index, colour }) => `paint ${placeOf(state, index)} ${LETTERS[colour]}`);
-  if (!(await isMade(state, [...paints, ...given.map((index) => `pin ${placeOf(state, index)}`)]))) return;
-  const more = given.length ? phrase('view.andGiven', { count: given.length }) : '';
-  sayTaken(state, phrase('view.cellsRepaintedOneUndo', { cells: cells.length, more, count: sizeOf(one) }));
+  const {state, cells, given = []} = one;
+  const paints =
+      cells.map(({index, colour}) => `paint ${placeOf(state, index)} ${LETTERS[colour]}`);
+  if (!(await isMade(state, [...paints, ...given.map((index) => `pin ${placeOf(state, index)}`)])))
+    return;
+  const more = given.length ? phrase('view.andGiven', {count: given.length}) : '';
+  sayTaken(
+      state, phrase('view.cellsRepaintedOneUndo', {cells: cells.length, more, count: sizeOf(one)})
+  );
 }
 
-const HEARS = { take, keep, preview, isKept: (one) => fixing.kept.has(one) };
+const HEARS = {
+  take,
+  keep,
+  preview,
+  isKept: (one) => fixing.kept.has(one)
+};
 
-/** Shows the proposals with the picture that they are for; while they are shown, another picture gets its own once the hand rests. */
+/**
+ * Shows the proposals with the picture that they are for; while they are shown, another picture
+ * gets its own once the hand rests.
+ */
 export function startFixing() {
   on('shown', (state) => {
     if (fixing.taken && sameBenchPart(fixing.taken.before, state)) fixing.taken.unsay();
@@ -314,7 +474,9 @@ export function startFixing() {
     }
     showFound();
     clearTimeout(fixing.waits);
-    if (isFixing() && !isOfThis() && mayFix()) fixing.waits = setTimeout(findAgain, REST);
-    else if (isFixing() && isOfThis()) fixSays(fixing.said);
+    if (isFixing() && !isOfThis() && mayFix())
+      fixing.waits = setTimeout(findAgain, REST);
+    else if (isFixing() && isOfThis())
+      fixSays(fixing.said);
   });
 }

@@ -1,45 +1,80 @@
-// What a repair may change: by the rule for neighbours, with a symmetry, and without what is locked.
+// What a repair may change: by the rule for neighbours, with a symmetry, and without what is
+// locked.
 
-import { $, buttonOf, choiceOf, make } from '../base/elements.js';
-import { unlocked } from '../document/document.js';
-import { placesOfBox } from '../document/regions.js';
-import { bench } from '../engine/bench.js';
-import { boardFields } from '../repair/board.js';
-import { phrase } from '../texts/phrase.js';
-import { selection } from './select.js';
+import {$, buttonOf, choiceOf, make} from '../base/elements.js';
+import {unlocked} from '../document/document.js';
+import {placesOfBox} from '../document/regions.js';
+import {bench} from '../engine/bench.js';
+import {boardFields} from '../repair/board.js';
+import {phrase} from '../texts/phrase.js';
+import {selection} from './select.js';
 
-const MIRRORS = [['', phrase('view.comes')], ['x', phrase('view.leftRightSame')], ['y', phrase('view.topBottomSame')]];
+const MIRRORS = [
+  ['', phrase('view.comes')],
+  ['x', phrase('view.leftRightSame')],
+  ['y', phrase('view.topBottomSame')]
+];
 
-const limits = { rule: true, mirror: '' };
+const limits = {
+  rule: true,
+  mirror: ''
+};
 
 /** The board of a state that repairs are looked for on. */
-export const boardOf = (state) => boardFields(state, { rule: limits.rule, mirror: limits.mirror || null });
+export const boardOf = (state) =>
+    boardFields(state, {rule: limits.rule, mirror: limits.mirror || null});
 
 /** What is chosen of it in the panel; `says` tells the user what is missing. */
 export function limitChoices(says) {
-  const rule = make('input', { type: 'checkbox', id: 'fix-rule', checked: limits.rule, onchange: (event) => { limits.rule = event.target.checked; } });
-  const mirror = choiceOf({ id: 'fix-mirror', onchange: (event) => { limits.mirror = event.target.value; } }, MIRRORS, limits.mirror);
+  const rule = make('input', {
+    type: 'checkbox',
+    id: 'fix-rule',
+    checked: limits.rule,
+    onchange: (event) => {
+      limits.rule = event.target.checked;
+    }
+  });
+  const mirror = choiceOf(
+      {
+        id: 'fix-mirror',
+        onchange: (event) => {
+          limits.mirror = event.target.value;
+        }
+      },
+      MIRRORS,
+      limits.mirror
+  );
   return [
     make('p', {}, make('label', {}, rule, phrase('view.onlyNeighboursColourNo'))),
     make('p', {}, make('label', {}, phrase('view.symmetry'), mirror)),
-    make('div', { class: 'group' }, buttonOf('fix-lock', phrase('view.lockAllButSelection'), () => lockOutside(says)), buttonOf('fix-unlock', phrase('view.unlockAll'), () => bench.become(unlocked))),
-    make('p', { id: 'fix-locks', class: 'faint' }),
+    make(
+        'div',
+        {class: 'group'},
+        buttonOf('fix-lock', phrase('view.lockAllButSelection'), () => lockOutside(says)),
+        buttonOf('fix-unlock', phrase('view.unlockAll'), () => bench.become(unlocked))
+    ),
+    make('p', {id: 'fix-locks', class: 'faint'}),
   ];
 }
 
 function lockOutside(says) {
-  const { box } = selection;
+  const {box} = selection;
   if (!box) return says(phrase('view.selectPartMayChange'));
   return bench.become((doc) => {
     const chosen = placesOfBox(box, doc.columns);
-    return { ...doc, locks: new Set([...Array(doc.rows * doc.columns).keys()].filter((place) => !chosen.has(place))) };
+    return {
+      ...doc,
+      locks:
+          new Set([...Array(doc.rows * doc.columns).keys()].filter((place) => !chosen.has(place)))
+    };
   });
 }
 
 /** Tells how much is locked. */
 export function showLocks() {
-  const { state } = bench;
+  const {state} = bench;
   if (!state || !$('fix-locks')) return;
   const colours = state.inks.filter((ink) => ink.locked).length;
-  $('fix-locks').textContent = phrase('view.lockedCellsColoursCells', { cells: state.locks.size, colours });
+  $('fix-locks').textContent =
+      phrase('view.lockedCellsColoursCells', {cells: state.locks.size, colours});
 }

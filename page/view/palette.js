@@ -1,42 +1,61 @@
-// The palette: choosing, adding, changing, merging, removing and ordering colours. The session can add and change a colour and
-// take one for another; what it cannot (removing, ordering, another background) opens the picture anew, and undo takes it back.
+// The palette: choosing, adding, changing, merging, removing and ordering colours. The session can
+// add and change a colour and take one for another; what it cannot (removing, ordering, another
+// background) opens the picture anew, and undo takes it back.
 
-import { $, choiceOf, make, say } from '../base/elements.js';
-import { behindFrame, on } from '../base/events.js';
-import { markRadio, radioGroup } from '../base/radios.js';
-import { capital, number, opening } from '../base/words.js';
-import { hexOf, isAmong, tripleOf } from '../document/colours.js';
-import { eightBitDoc } from '../document/document.js';
-import { LETTERS, MOST_COLOURS } from '../document/limits.js';
-import { COLOUR_NAMES, colourNamed } from '../document/named.js';
-import { XML_WHOLE, nameOf, namesOf } from '../document/names.js';
-import { reordered } from '../document/shapes.js';
-import { bench } from '../engine/bench.js';
-import { inksOf } from '../formats/webpbn.js';
-import { phrase } from '../texts/phrase.js';
-import { addAction } from './actions.js';
-import { openDialog } from './dialogs.js';
-import { colourText, dress, inkName, nearText } from './dress.js';
-import { setDown } from './select.js';
-import { heard, tools, useColour, whileOpen } from './tools.js';
+import {$, choiceOf, make, say} from '../base/elements.js';
+import {behindFrame, on} from '../base/events.js';
+import {markRadio, radioGroup} from '../base/radios.js';
+import {capital, number, opening} from '../base/words.js';
+import {hexOf, isAmong, tripleOf} from '../document/colours.js';
+import {eightBitDoc} from '../document/document.js';
+import {LETTERS, MOST_COLOURS} from '../document/limits.js';
+import {COLOUR_NAMES, colourNamed} from '../document/named.js';
+import {XML_WHOLE, nameOf, namesOf} from '../document/names.js';
+import {reordered} from '../document/shapes.js';
+import {bench} from '../engine/bench.js';
+import {inksOf} from '../formats/webpbn.js';
+import {phrase} from '../texts/phrase.js';
+import {addAction} from './actions.js';
+import {openDialog} from './dialogs.js';
+import {colourText, dress, inkName, nearText} from './dress.js';
+import {setDown} from './select.js';
+import {heard, tools, useColour, whileOpen} from './tools.js';
 
 const palette = {
-  row: make('div', { id: 'palette', role: 'radiogroup', 'aria-label': phrase('view.colourLabel') }),
-  text: make('p', { id: 'colour-text', class: 'faint' }),
-  picker: make('input', { id: 'picker', type: 'color', 'aria-label': phrase('view.chosenColour') }),
-  named: make('input', { id: 'colour-named', type: 'text', maxlength: '30', list: 'colour-words', 'aria-label': phrase('view.chosenColourName'), placeholder: phrase('view.name123abc'), size: 13 }),
-  name: make('input', { id: 'ink-name', type: 'text', maxlength: '40', 'aria-label': phrase('view.nameColour') }),
-  sign: make('input', { id: 'ink-sign', type: 'text', maxlength: '2', 'aria-label': phrase('view.signColourXml') }),
-  locked: make('input', { id: 'ink-locked', type: 'checkbox' }),
-  near: make('p', { id: 'near', role: 'status' }),
+  row: make('div', {id: 'palette', role: 'radiogroup', 'aria-label': phrase('view.colourLabel')}),
+  text: make('p', {id: 'colour-text', class: 'faint'}),
+  picker: make('input', {id: 'picker', type: 'color', 'aria-label': phrase('view.chosenColour')}),
+  named: make('input', {
+    id: 'colour-named',
+    type: 'text',
+    maxlength: '30',
+    list: 'colour-words',
+    'aria-label': phrase('view.chosenColourName'),
+    placeholder: phrase('view.name123abc'),
+    size: 13
+  }),
+  name: make(
+      'input',
+      {id: 'ink-name', type: 'text', maxlength: '40', 'aria-label': phrase('view.nameColour')}
+  ),
+  sign: make(
+      'input',
+      {id: 'ink-sign', type: 'text', maxlength: '2', 'aria-label': phrase('view.signColourXml')}
+  ),
+  locked: make('input', {id: 'ink-locked', type: 'checkbox'}),
+  near: make('p', {id: 'near', role: 'status'}),
 };
 
 function showPalette() {
-  const { colours, maxval } = bench.state;
+  const {colours, maxval} = bench.state;
   const letters = [...LETTERS.slice(0, colours.length)];
   if (!letters.includes(tools.colour)) tools.colour = letters.at(-1);
   palette.row.replaceChildren(...letters.map((letter) => {
-    const button = make('button', { type: 'button', role: 'radio', 'data-letter': letter, 'aria-label': colourText(letter) }, letter);
+    const button = make(
+        'button',
+        {type: 'button', role: 'radio', 'data-letter': letter, 'aria-label': colourText(letter)},
+        letter
+    );
     dress(button, letter);
     return button;
   }));
@@ -47,11 +66,11 @@ function showPalette() {
 
 function markColour() {
   if (!bench.state) return;
-  const { colours, maxval } = bench.state;
-  markRadio(palette.row, ({ dataset }) => dataset.letter === tools.colour);
+  const {colours, maxval} = bench.state;
+  markRadio(palette.row, ({dataset}) => dataset.letter === tools.colour);
   palette.picker.value = hexOf(colours[LETTERS.indexOf(tools.colour)], maxval);
   const ink = bench.state.inks[LETTERS.indexOf(tools.colour)] ?? {};
-  const { sign } = inksOf(bench.state)[LETTERS.indexOf(tools.colour)];
+  const {sign} = inksOf(bench.state)[LETTERS.indexOf(tools.colour)];
   if (document.activeElement !== palette.name) palette.name.value = ink.name ?? '';
   if (document.activeElement !== palette.sign) palette.sign.value = ink.sign ?? '';
   palette.name.placeholder = inkName(bench.state, tools.colour);
@@ -63,7 +82,8 @@ function markColour() {
 // How many cells each letter has.
 function countsOf(picture) {
   const counts = new Map();
-  for (const row of picture) for (const letter of row) counts.set(letter, (counts.get(letter) ?? 0) + 1);
+  for (const row of picture)
+    for (const letter of row) counts.set(letter, (counts.get(letter) ?? 0) + 1);
   return counts;
 }
 
@@ -72,18 +92,20 @@ const tellColours = behindFrame(() => {
   if (!bench.state) return;
   const counts = countsOf(bench.state.picture);
   for (const [at, button] of [...palette.row.children].entries()) {
-    const { letter } = button.dataset;
+    const {letter} = button.dataset;
     const count = counts.get(letter) ?? 0;
     button.dataset.cells = number(count);
-    button.title = `${colourText(letter)}: ${phrase('view.cells', { cells: count })}${at < 10 ? phrase('view.key', { at }) : ''}`;
+    button.title = `${colourText(letter)}: ${phrase('view.cells', {cells: count})}${
+        at < 10 ? phrase('view.key', {at}) : ''}`;
   }
-  palette.text.textContent = `${colourText(tools.colour)}: ${phrase('view.cells', { cells: counts.get(tools.colour) ?? 0 })}`;
+  palette.text.textContent = `${colourText(tools.colour)}: ${
+      phrase('view.cells', {cells: counts.get(tools.colour) ?? 0})}`;
   showNear();
 });
 
 let nearShown = [];
 function showNear() {
-  const { colours, picture } = bench.state;
+  const {colours, picture} = bench.state;
   if (nearShown[0] === colours && nearShown[1] === picture) return;
   nearShown = [colours, picture];
   palette.near.textContent = nearText(bench.state);
@@ -93,35 +115,48 @@ function showNear() {
 function changeInk(change) {
   const at = LETTERS.indexOf(tools.colour);
   setDown();
-  return heard(bench.become((doc) => ({ ...doc, inks: doc.colours.map((_, one) => (one === at ? change(doc.inks[one] ?? {}) : doc.inks[one] ?? {})) })));
+  return heard(bench.become(
+      (doc) => ({
+        ...doc,
+        inks: doc.colours
+                  .map((_, one) => (one === at ? change(doc.inks[one] ?? {}) : doc.inks[one] ?? {}))
+      })
+  ));
 }
 
 // What is refused does not stay in its field.
 function refuse(text) {
-  const { name = '', sign = '' } = bench.state.inks[LETTERS.indexOf(tools.colour)] ?? {};
-  Object.assign(palette.name, { value: name });
-  Object.assign(palette.sign, { value: sign });
-  palette.picker.value = hexOf(bench.state.colours[LETTERS.indexOf(tools.colour)], bench.state.maxval);
+  const {name = '', sign = ''} = bench.state.inks[LETTERS.indexOf(tools.colour)] ?? {};
+  Object.assign(palette.name, {value: name});
+  Object.assign(palette.sign, {value: sign});
+  palette.picker.value =
+      hexOf(bench.state.colours[LETTERS.indexOf(tools.colour)], bench.state.maxval);
   say(text, 'alarm');
 }
 
 function changeName() {
   const name = palette.name.value.trim();
-  if (namesOf(bench.state).some((other, at) => at !== LETTERS.indexOf(tools.colour) && other === name)) return refuse(phrase('view.anotherColourNamed', { name }));
-  return changeInk(({ name: before, ...ink }) => (name ? { ...ink, name } : ink));
+  if (namesOf(bench.state
+      ).some((other, at) => at !== LETTERS.indexOf(tools.colour) && other === name))
+    return refuse(phrase('view.anotherColourNamed', {name}));
+  return changeInk(({name: before, ...ink}) => (name ? {...ink, name} : ink));
 }
 
 function changeSign() {
   const [sign = ''] = palette.sign.value.trim();
-  if (sign && '?|\\[]'.includes(sign)) return refuse(phrase('view.meansSomethingElseXml', { sign }));
-  if (sign && inksOf(bench.state).some((ink, at) => at !== LETTERS.indexOf(tools.colour) && ink.sign === sign)) return refuse(phrase('view.anotherColourSign', { sign }));
-  return changeInk(({ sign: before, ...ink }) => (sign ? { ...ink, sign } : ink));
+  if (sign && '?|\\[]'.includes(sign)) return refuse(phrase('view.meansSomethingElseXml', {sign}));
+  if (sign &&
+      inksOf(bench.state
+      ).some((ink, at) => at !== LETTERS.indexOf(tools.colour) && ink.sign === sign))
+    return refuse(phrase('view.anotherColourSign', {sign}));
+  return changeInk(({sign: before, ...ink}) => (sign ? {...ink, sign} : ink));
 }
 
 // Some colour near to this one that the palette does not have.
 function freeColour(doc, triple) {
   let found = [...triple];
-  for (let step = 1; isAmong(doc.colours, found); step++) found = triple.map((sample) => (sample + 37 * step) % 256);
+  for (let step = 1; isAmong(doc.colours, found); step++)
+    found = triple.map((sample) => (sample + 37 * step) % 256);
   return found;
 }
 
@@ -132,15 +167,23 @@ async function addColour() {
   const added = (old) => {
     const doc = eightBitDoc(old);
     if (doc.colours.length >= MOST_COLOURS) return null;
-    return { ...doc, colours: [...doc.colours, freeColour(doc, NEW_COLOURS[doc.colours.length % NEW_COLOURS.length])] };
+    return {
+      ...doc,
+      colours:
+          [...doc.colours, freeColour(doc, NEW_COLOURS[doc.colours.length % NEW_COLOURS.length])]
+    };
   };
-  if (await whileOpen(heard(bench.become(added)))) useColour(LETTERS[bench.state.colours.length - 1]);
+  if (await whileOpen(heard(bench.become(added))))
+    useColour(LETTERS[bench.state.colours.length - 1]);
 }
 
-// What the page keeps of a colour that is changed: the usual name of the tone before, as files have it, goes with that tone.
+// What the page keeps of a colour that is changed: the usual name of the tone before, as files have
+// it, goes with that tone.
 function inkOfOther(doc, at) {
-  const { name, ...others } = doc.inks[at] ?? {};
-  const isUsual = [nameOf(doc.colours[at], 255), namesOf({ ...doc, inks: [] }, XML_WHOLE)[at]].includes(name) || colourNamed(name ?? '')?.join() === doc.colours[at].join();
+  const {name, ...others} = doc.inks[at] ?? {};
+  const isUsual =
+      [nameOf(doc.colours[at], 255), namesOf({...doc, inks: []}, XML_WHOLE)[at]].includes(name) ||
+      colourNamed(name ?? '')?.join() === doc.colours[at].join();
   return isUsual ? others : doc.inks[at];
 }
 
@@ -149,7 +192,7 @@ function changeByName() {
   palette.named.value = '';
   const triple = text ? colourNamed(text) : null;
   if (triple) return changeColour(triple, /^#?[\da-f]{3,6}$/i.test(text) ? '' : text);
-  return text ? say(phrase('view.noColourName', { text }), 'alarm') : null;
+  return text ? say(phrase('view.noColourName', {text}), 'alarm') : null;
 }
 
 async function changeColour(triple, name = '') {
@@ -161,8 +204,10 @@ async function changeColour(triple, name = '') {
   const changed = (old) => {
     const doc = eightBitDoc(old);
     if (at >= doc.colours.length || isAmong(doc.colours, triple)) return null;
-    const inks = doc.inks.map((ink, other) => (other === at ? { ...inkOfOther(doc, at), ...(name && { name }) } : ink));
-    return { ...doc, inks, colours: doc.colours.map((one, other) => (other === at ? triple : one)) };
+    const inks = doc.inks.map(
+        (ink, other) => (other === at ? {...inkOfOther(doc, at), ...(name && {name})} : ink)
+    );
+    return {...doc, inks, colours: doc.colours.map((one, other) => (other === at ? triple : one))};
   };
   return heard(bench.become(changed));
 }
@@ -170,10 +215,23 @@ async function changeColour(triple, name = '') {
 async function mergeColour() {
   const from = tools.colour;
   if (from === '.') return say(phrase('view.backgroundStaysEveryPicture'), 'alarm');
-  const letters = [...LETTERS.slice(0, bench.state.colours.length)].filter((letter) => letter !== from);
-  const choice = choiceOf({ 'aria-label': phrase('view.colourLabel') }, letters.map((letter) => [letter, `${LETTERS.indexOf(letter)}: ${colourText(letter)}`]));
-  const content = make('div', {}, make('p', {}, phrase('view.allCellsGetAnother', { colour: colourText(from) })), choice);
-  const into = await whileOpen(openDialog({ title: phrase('view.mergeColour'), content, buttons: [{ name: phrase('view.merge'), value: () => choice.value, main: true }] }));
+  const letters =
+      [...LETTERS.slice(0, bench.state.colours.length)].filter((letter) => letter !== from);
+  const choice = choiceOf(
+      {'aria-label': phrase('view.colourLabel')},
+      letters.map((letter) => [letter, `${LETTERS.indexOf(letter)}: ${colourText(letter)}`])
+  );
+  const content = make(
+      'div',
+      {},
+      make('p', {}, phrase('view.allCellsGetAnother', {colour: colourText(from)})),
+      choice
+  );
+  const into = await whileOpen(openDialog({
+    title: phrase('view.mergeColour'),
+    content,
+    buttons: [{name: phrase('view.merge'), value: () => choice.value, main: true}]
+  }));
   if (into) removeColour(from, into);
 }
 
@@ -181,8 +239,12 @@ async function mergeColour() {
 function removeColour(letter, into = '.') {
   setDown();
   const at = LETTERS.indexOf(letter);
-  const without = (doc) => reordered(doc, [...doc.colours.keys()].filter((one) => one !== at), LETTERS.indexOf(into));
-  return becomeOpened((doc) => (at < doc.colours.length ? without(doc) : null), phrase('view.colourRemovedThoseAfter'));
+  const without = (doc) =>
+      reordered(doc, [...doc.colours.keys()].filter((one) => one !== at), LETTERS.indexOf(into));
+  return becomeOpened(
+      (doc) => (at < doc.colours.length ? without(doc) : null),
+      phrase('view.colourRemovedThoseAfter')
+  );
 }
 
 function deleteColour() {
@@ -203,7 +265,10 @@ function moveColour(by) {
     return reordered(doc, order);
   };
   tools.colour = LETTERS[to];
-  return becomeOpened((doc) => (Math.max(at, to) < doc.colours.length ? exchanged(doc) : null), phrase('view.coloursNewOrderUndo'));
+  return becomeOpened(
+      (doc) => (Math.max(at, to) < doc.colours.length ? exchanged(doc) : null),
+      phrase('view.coloursNewOrderUndo')
+  );
 }
 
 async function becomeOpened(doc, text) {
@@ -214,18 +279,50 @@ async function becomeOpened(doc, text) {
 function turnEditing() {
   const isOpen = $('colours').classList.toggle('open');
   $('colours-open').setAttribute('aria-expanded', isOpen);
-  if (isOpen && $('audit').classList.contains('open')) $('verdict-open').click(); // both would cover the picture
+  if (isOpen && $('audit').classList.contains('open'))
+    $('verdict-open').click();  // both would cover the picture
 }
 
 /** Makes the panel of colours. */
 export function makePalette() {
-  const more = make('div', { class: 'group' });
-  const opens = make('button', { type: 'button', id: 'colours-open', 'aria-expanded': 'false', onclick: turnEditing }, phrase('view.colours'));
+  const more = make('div', {class: 'group'});
+  const opens = make(
+      'button',
+      {type: 'button', id: 'colours-open', 'aria-expanded': 'false', onclick: turnEditing},
+      phrase('view.colours')
+  );
   opens.setAttribute('aria-label', phrase('view.editColours'));
-  $('colours').append(make('h2', {}, phrase('view.colours')), palette.row, opens, palette.text, more, make('div', { class: 'group' }, make('label', {}, phrase('view.change'), palette.picker), palette.named, make('datalist', { id: 'colour-words' }, ...COLOUR_NAMES.map((name) => make('option', { value: name }))), make('label', { title: phrase('view.noRepairChangesCells') }, palette.locked, capital(phrase('view.locked')))),
-    make('div', { class: 'group' }, make('label', {}, phrase('view.name'), palette.name), make('label', { title: phrase('view.oneSignEachCell') }, phrase('view.sign'), palette.sign)), palette.near);
+  $('colours').append(
+      make('h2', {}, phrase('view.colours')),
+      palette.row,
+      opens,
+      palette.text,
+      more,
+      make(
+          'div',
+          {class: 'group'},
+          make('label', {}, phrase('view.change'), palette.picker),
+          palette.named,
+          make('datalist', {id: 'colour-words'}, ...COLOUR_NAMES.map((name) => make('option', {
+                                                                       value: name
+                                                                     }))),
+          make(
+              'label',
+              {title: phrase('view.noRepairChangesCells')},
+              palette.locked,
+              capital(phrase('view.locked'))
+          )
+      ),
+      make(
+          'div',
+          {class: 'group'},
+          make('label', {}, phrase('view.name'), palette.name),
+          make('label', {title: phrase('view.oneSignEachCell')}, phrase('view.sign'), palette.sign)
+      ),
+      palette.near
+  );
   more.id = 'colour-more';
-  const add = (id, name, run, can) => addAction({ id, name, place: 'colour-more', run, can });
+  const add = (id, name, run, can) => addAction({id, name, place: 'colour-more', run, can});
   add('colour-add', phrase('view.add'), addColour, () => bench.state.colours.length < MOST_COLOURS);
   add('colour-merge', opening(phrase('view.merge')), mergeColour);
   add('colour-delete', phrase('view.delete'), deleteColour);
@@ -235,15 +332,22 @@ export function makePalette() {
   palette.named.addEventListener('change', changeByName);
   palette.name.addEventListener('change', changeName);
   palette.sign.addEventListener('change', changeSign);
-  palette.locked.addEventListener('change', () => changeInk(({ locked, ...ink }) => (palette.locked.checked ? { ...ink, locked: true } : ink)));
+  palette.locked.addEventListener(
+      'change',
+      () => changeInk(({locked, ...ink}) => (palette.locked.checked ? {...ink, locked: true} : ink))
+  );
   radioGroup(palette.row, (button) => useColour(button.dataset.letter));
   let shown = '';
   on('shown', (state) => {
     const key = [state.maxval, ...state.colours, JSON.stringify(state.inks)].join(';');
-    if (key !== shown) showPalette();
-    else tellColours();
+    if (key !== shown)
+      showPalette();
+    else
+      tellColours();
     shown = key;
   });
-  on('opened', () => { shown = ''; });
+  on('opened', () => {
+    shown = '';
+  });
   on('colour', markColour);
 }

@@ -1,54 +1,95 @@
 // The tool bar, and the panels for the cell that is pointed at and for its row and column.
 
-import { $, choiceOf, make, say, svgPart } from '../base/elements.js';
-import { on } from '../base/events.js';
-import { markRadio, radioGroup } from '../base/radios.js';
-import { capital, lineName } from '../base/words.js';
-import { MOST_CELLS } from '../document/limits.js';
-import { sheet } from '../draw/sheet.js';
-import { bench } from '../engine/bench.js';
-import { clueText } from '../engine/opening.js';
-import { phrase } from '../texts/phrase.js';
-import { addAction } from './actions.js';
-import { cellText, clueInto, cursor } from './grid.js';
-import { setDown } from './select.js';
-import { TOOLS, sendStroke, tools, useSymmetry, useTool } from './tools.js';
+import {$, choiceOf, make, say, svgPart} from '../base/elements.js';
+import {on} from '../base/events.js';
+import {markRadio, radioGroup} from '../base/radios.js';
+import {capital, lineName} from '../base/words.js';
+import {MOST_CELLS} from '../document/limits.js';
+import {sheet} from '../draw/sheet.js';
+import {bench} from '../engine/bench.js';
+import {clueText} from '../engine/opening.js';
+import {phrase} from '../texts/phrase.js';
+import {addAction} from './actions.js';
+import {cellText, clueInto, cursor} from './grid.js';
+import {setDown} from './select.js';
+import {TOOLS, sendStroke, tools, useSymmetry, useTool} from './tools.js';
 
-const SYMMETRY_NAMES = { none: phrase('view.noSymmetry'), across: phrase('view.leftRight'), down: phrase('view.topBottom'), both: phrase('view.both'), quarter: phrase('view.quarterTurns') };
-const bar = { row: make('div', { id: 'tool-row', role: 'radiogroup', 'aria-label': phrase('view.tool') }), hint: make('p', { id: 'hint', class: 'faint' }), symmetry: choiceOf({ id: 'symmetry', 'aria-label': phrase('view.symmetry'), title: phrase('view.symmetricPens') }, Object.entries(SYMMETRY_NAMES)) };
+const SYMMETRY_NAMES = {
+  none: phrase('view.noSymmetry'),
+  across: phrase('view.leftRight'),
+  down: phrase('view.topBottom'),
+  both: phrase('view.both'),
+  quarter: phrase('view.quarterTurns')
+};
+const bar = {
+  row: make('div', {id: 'tool-row', role: 'radiogroup', 'aria-label': phrase('view.tool')}),
+  hint: make('p', {id: 'hint', class: 'faint'}),
+  symmetry: choiceOf(
+      {id: 'symmetry', 'aria-label': phrase('view.symmetry'), title: phrase('view.symmetricPens')},
+      Object.entries(SYMMETRY_NAMES)
+  )
+};
 
 // The picture of a tool beside its name: lines on a field of 16 by 16.
-function iconOf(name, { icon }) {
-  const svg = svgPart('svg', { viewBox: '0 0 16 16', width: 16, height: 16, class: 'icon', 'aria-hidden': 'true' });
-  svg.append(svgPart('path', { d: icon, fill: name === 'box' ? 'currentColor' : 'none', stroke: 'currentColor', 'stroke-width': 1.5, 'stroke-linecap': 'round', 'stroke-linejoin': 'round' }));
+function iconOf(name, {icon}) {
+  const svg = svgPart(
+      'svg', {viewBox: '0 0 16 16', width: 16, height: 16, class: 'icon', 'aria-hidden': 'true'}
+  );
+  svg.append(svgPart('path', {
+    d: icon,
+    fill: name === 'box' ? 'currentColor' : 'none',
+    stroke: 'currentColor',
+    'stroke-width': 1.5,
+    'stroke-linecap': 'round',
+    'stroke-linejoin': 'round'
+  }));
   return svg;
 }
 
 export function makeToolBar() {
   for (const [name, tool] of Object.entries(TOOLS)) {
-    bar.row.append(make('button', { type: 'button', role: 'radio', 'data-tool': name, title: tool.hint, 'aria-keyshortcuts': tool.key }, iconOf(name, tool), make('span', {}, tool.name), make('kbd', { 'aria-hidden': 'true' }, tool.key)));
-    addAction({ id: `tool-${name}`, name: tool.name, key: tool.key, run: () => useTool(name) });
+    bar.row.append(make(
+        'button',
+        {
+          type: 'button',
+          role: 'radio',
+          'data-tool': name,
+          title: tool.hint,
+          'aria-keyshortcuts': tool.key
+        },
+        iconOf(name, tool),
+        make('span', {}, tool.name),
+        make('kbd', {'aria-hidden': 'true'}, tool.key)
+    ));
+    addAction({id: `tool-${name}`, name: tool.name, key: tool.key, run: () => useTool(name)});
   }
   $('tools').append(bar.row, bar.symmetry, bar.hint);
   bar.symmetry.addEventListener('change', () => useSymmetry(bar.symmetry.value));
-  on('symmetry', (kind) => { bar.symmetry.value = kind; });
+  on('symmetry', (kind) => {
+    bar.symmetry.value = kind;
+  });
   radioGroup(bar.row, (button) => useTool(button.dataset.tool));
-  on('tool', () => showTool().scrollIntoView({ block: 'nearest', inline: 'nearest' })); // on a phone the bar is wider than the window
+  on('tool', () => showTool().scrollIntoView({block: 'nearest', inline: 'nearest'})
+  );  // on a phone the bar is wider than the window
   showTool();
 }
 
 // Shows which tool is taken, and returns its button.
 function showTool() {
-  markRadio(bar.row, ({ dataset }) => dataset.tool === tools.name);
-  bar.row.querySelector('[data-tool=wand] span').textContent = TOOLS.wand.name + (tools.adds ? ' +' : '');
+  markRadio(bar.row, ({dataset}) => dataset.tool === tools.name);
+  bar.row.querySelector('[data-tool=wand] span').textContent =
+      TOOLS.wand.name + (tools.adds ? ' +' : '');
   bar.hint.textContent = TOOLS[tools.name].hint;
   sheet.stage.dataset.tool = tools.name;
   return bar.row.querySelector('[aria-checked=true]');
 }
 
 const panel = {
-  text: make('p', { id: 'cell-text' }), row: make('p', { id: 'row-clue', class: 'clue' }), column: make('p', { id: 'column-clue', class: 'clue' }),
-  asked: 0, at: null,
+  text: make('p', {id: 'cell-text'}),
+  row: make('p', {id: 'row-clue', class: 'clue'}),
+  column: make('p', {id: 'column-clue', class: 'clue'}),
+  asked: 0,
+  at: null,
 };
 
 export function makeCellPanel() {
@@ -64,9 +105,10 @@ export function showCell(at = cursor) {
   if (panel.asked) return;
   panel.asked = requestAnimationFrame(() => {
     panel.asked = 0;
-    const { state } = bench;
+    const {state} = bench;
     if (!state) return;
-    const [row, col] = [Math.min(panel.at.row, state.rows - 1), Math.min(panel.at.col, state.columns - 1)];
+    const [row, col] =
+        [Math.min(panel.at.row, state.rows - 1), Math.min(panel.at.col, state.columns - 1)];
     panel.text.textContent = cellText(row, col);
     fillClue(panel.row, capital(lineName(true, row)), state.clues.rows[row]);
     fillClue(panel.column, capital(lineName(false, col)), state.clues.columns[col]);
@@ -75,48 +117,100 @@ export function showCell(at = cursor) {
 }
 
 export function fillClue(element, name, blocks) {
-  const key = `${name} ${clueText(blocks)} ${sheet.geometry.letters} ${bench.state.colours.join(';')}`;
+  const key =
+      `${name} ${clueText(blocks)} ${sheet.geometry.letters} ${bench.state.colours.join(';')}`;
   if (element.dataset.key === key) return;
   element.dataset.key = key;
   clueInto(element, name, blocks);
 }
 
-/** Keys in a field that an edge of the panels cuts move nothing: browsers would scroll it into sight, under the pointer. */
+/**
+ * Keys in a field that an edge of the panels cuts move nothing: browsers would scroll it into
+ * sight, under the pointer.
+ */
 export function keepStill() {
   const panels = $('panels');
-  const stay = ({ target, key = '' }) => {
-    const { scrollTop } = panels;
+  const stay = ({target, key = ''}) => {
+    const {scrollTop} = panels;
     const [field, room] = [target, panels].map((one) => one.getBoundingClientRect());
     const isSeen = field.bottom > room.top && field.top < room.bottom;
-    if (isSeen && target.matches('[type=text], [type=number]') && !/^(Tab|Page)/.test(key)) requestAnimationFrame(() => { panels.scrollTop = scrollTop; });
+    if (isSeen && target.matches('[type=text], [type=number]') && !/^(Tab|Page)/.test(key))
+      requestAnimationFrame(() => {
+        panels.scrollTop = scrollTop;
+      });
   };
   for (const name of ['keydown', 'beforeinput']) panels.addEventListener(name, stay);
 }
 
 /** What is done to rows and columns, in words. */
 export const LINE_TEXTS = {
-  row: { before: phrase('view.insertRowAbove'), after: phrase('view.insertRowBelow'), gone: phrase('view.deleteRow') },
-  column: { before: phrase('view.insertColumnLeft'), after: phrase('view.insertColumnRight'), gone: phrase('view.deleteColumn') },
+  row: {
+    before: phrase('view.insertRowAbove'),
+    after: phrase('view.insertRowBelow'),
+    gone: phrase('view.deleteRow')
+  },
+  column: {
+    before: phrase('view.insertColumnLeft'),
+    after: phrase('view.insertColumnRight'),
+    gone: phrase('view.deleteColumn')
+  },
 };
 
 export function makeLinesPanel() {
   $('lines').append(make('h2', {}, phrase('view.rowsColumns')));
   for (const word of ['row', 'column']) {
-    const other = make('input', { type: 'number', min: 1, max: MOST_CELLS, 'aria-label': word === 'row' ? phrase('view.otherRow') : phrase('view.otherColumn') });
+    const other = make('input', {
+      type: 'number',
+      min: 1,
+      max: MOST_CELLS,
+      'aria-label': word === 'row' ? phrase('view.otherRow') : phrase('view.otherColumn')
+    });
     const at = () => (word === 'row' ? cursor.row : cursor.col) + 1;
-    const button = (text, label, lines) => make('button', { type: 'button', 'aria-label': label, onclick: () => { setDown(); sendStroke([lines()]); } }, text);
-    $('lines').append(make('div', { class: 'lines', role: 'group', 'aria-labelledby': `${word}-name` },
-      make('b', { id: `${word}-name` }),
-      button(word === 'row' ? phrase('view.above') : phrase('view.left'), LINE_TEXTS[word].before, () => `insert ${word} ${at()}`),
-      button(word === 'row' ? phrase('view.below') : phrase('view.right'), LINE_TEXTS[word].after, () => `insert ${word} ${at() + 1}`),
-      button(phrase('view.delete'), LINE_TEXTS[word].gone, () => `delete ${word} ${at()}`),
-      make('span', {}, make('button', { type: 'button', onclick: () => swapLines(word, at(), Number(other.value)) }, phrase('view.swap')), ' ', other)));
+    const button = (text, label, lines) => make(
+        'button',
+        {
+          type: 'button',
+          'aria-label': label,
+          onclick: () => {
+            setDown();
+            sendStroke([lines()]);
+          }
+        },
+        text
+    );
+    $('lines').append(make(
+        'div',
+        {class: 'lines', role: 'group', 'aria-labelledby': `${word}-name`},
+        make('b', {id: `${word}-name`}),
+        button(
+            word === 'row' ? phrase('view.above') : phrase('view.left'),
+            LINE_TEXTS[word].before,
+            () => `insert ${word} ${at()}`
+        ),
+        button(
+            word === 'row' ? phrase('view.below') : phrase('view.right'),
+            LINE_TEXTS[word].after,
+            () => `insert ${word} ${at() + 1}`
+        ),
+        button(phrase('view.delete'), LINE_TEXTS[word].gone, () => `delete ${word} ${at()}`),
+        make(
+            'span',
+            {},
+            make(
+                'button',
+                {type: 'button', onclick: () => swapLines(word, at(), Number(other.value))},
+                phrase('view.swap')
+            ),
+            ' ',
+            other
+        )
+    ));
   }
 }
 
 function swapLines(word, at, other) {
   const count = word === 'row' ? bench.state.rows : bench.state.columns;
-  if (!other || other > count) return say(phrase('view.giveNumber', { count }), 'alarm');
+  if (!other || other > count) return say(phrase('view.giveNumber', {count}), 'alarm');
   if (other === at) return null;
   setDown();
   return sendStroke([`swap ${word} ${at} ${other}`]);

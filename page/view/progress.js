@@ -1,20 +1,25 @@
-// What runs for some time: a dialog that tells how far it is, with a button that stops it. What ends soon shows none.
+// What runs for some time: a dialog that tells how far it is, with a button that stops it. What
+// ends soon shows none.
 
-import { make } from '../base/elements.js';
-import { phrase } from '../texts/phrase.js';
-import { openDialog } from './dialogs.js';
+import {make} from '../base/elements.js';
+import {phrase} from '../texts/phrase.js';
+import {openDialog} from './dialogs.js';
 
-const AFTER = 400; // milliseconds until it is shown
-const REST = 50; // milliseconds of work until the browser may draw
+const AFTER = 400;  // milliseconds until it is shown
+const REST = 50;    // milliseconds of work until the browser may draw
 
 /** In place of a Progress where nobody waits or stops it. */
-export const UNSEEN = { isStopped: false, goesOn: async (text) => true, held: (engine) => engine };
+export const UNSEEN = {
+  isStopped: false,
+  goesOn: async (text) => true,
+  held: (engine) => engine
+};
 
 /** What comes of items, one after the other, up to where `progress` does not go on. */
 export async function eachInTurn(items, progress, make) {
   const made = [];
   for (const [at, item] of items.entries()) {
-    if (!(await progress.goesOn(phrase('import.ofAll', { count: at, all: items.length })))) break;
+    if (!(await progress.goesOn(phrase('import.ofAll', {count: at, all: items.length})))) break;
     made.push(await make(item, at));
   }
   return made;
@@ -26,18 +31,23 @@ export class Progress {
   rested = performance.now();
 
   constructor(title, text = '') {
-    this.line = make('p', { role: 'status', class: 'progress' }, text);
+    this.line = make('p', {role: 'status', class: 'progress'}, text);
     this.timer = setTimeout(() => this.show(title), AFTER);
   }
 
   async show(title) {
-    await openDialog({ title, content: this.line, buttons: [{ name: phrase('view.stop'), value: null, main: true }] });
+    await openDialog(
+        {title, content: this.line, buttons: [{name: phrase('view.stop'), value: null, main: true}]}
+    );
     if (this.isEnded) return;
     this.isStopped = true;
     this.engine?.end('stopped');
   }
 
-  /** An engine that works here: it ends where the user stops that, and at once where that was before. */
+  /**
+   * An engine that works here: it ends where the user stops that, and at once where that was
+   * before.
+   */
   held(engine) {
     this.engine = engine;
     if (this.isStopped) engine.end('stopped');

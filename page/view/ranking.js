@@ -1,8 +1,9 @@
-// Which proposals come first: what keeps a symmetry, what leaves nothing to guess, what is small, and what is seen least.
+// Which proposals come first: what keeps a symmetry, what leaves nothing to guess, what is small,
+// and what is seen least.
 
-import { eightBits, oklabOf } from '../document/colours.js';
-import { painted } from '../document/cover.js';
-import { LETTERS } from '../document/limits.js';
+import {eightBits, oklabOf} from '../document/colours.js';
+import {painted} from '../document/cover.js';
+import {LETTERS} from '../document/limits.js';
 
 /** The axis about which both halves of a picture are alike: 'x', 'y' or null. */
 export function mirrorOf(picture) {
@@ -10,39 +11,55 @@ export function mirrorOf(picture) {
   return picture.join() === [...picture].reverse().join() ? 'y' : null;
 }
 
-const codesOf = (cells) => cells.map(({ index, colour }) => index * 16 + colour);
+const codesOf = (cells) => cells.map(({index, colour}) => index * 16 + colour);
 
 /** A text for what a repaint paints. */
-export const keyOf = ({ cells }) => codesOf(cells).sort((one, other) => one - other).join();
+export const keyOf = ({cells}) => codesOf(cells).sort((one, other) => one - other).join();
 
-// How much a cell's new colour is seen: by how far it is from the old one, less where more of its neighbours have it, as in a notch.
-function seenAt({ picture, colours, columns, maxval }, { index, colour }) {
+// How much a cell's new colour is seen: by how far it is from the old one, less where more of its
+// neighbours have it, as in a notch.
+function seenAt({picture, colours, columns, maxval}, {index, colour}) {
   const [row, col] = [Math.floor(index / columns), index % columns];
   const before = picture[row][col];
   const [old, lab] = [LETTERS.indexOf(before), (at) => oklabOf(...eightBits(colours[at], maxval))];
-  const beside = [[-1, 0], [1, 0], [0, -1], [0, 1]].map(([down, across]) => picture[row + down]?.[col + across]);
+  const beside = [[-1, 0], [1, 0], [0, -1], [0, 1]].map(
+      ([down, across]) => picture[row + down]?.[col + across]
+  );
   const count = (letter) => beside.filter((one) => one === letter).length;
-  return Math.hypot(...lab(colour).map((value, at) => value - lab(old)[at])) * (1 + (count(before) - count(LETTERS[colour])) / 4);
+  return Math.hypot(...lab(colour).map((value, at) => value - lab(old)[at])) *
+      (1 + (count(before) - count(LETTERS[colour])) / 4);
 }
 
-/** How much a repaint is `seen`, by its cells and what it does to the areas; and whether it `breaks` a symmetry. */
-export function seenOf(state, { cells = [], pain = 0 }) {
+/**
+ * How much a repaint is `seen`, by its cells and what it does to the areas; and whether it
+ * `breaks` a symmetry.
+ */
+export function seenOf(state, {cells = [], pain = 0}) {
   if (!cells.length) return {};
   const mirror = mirrorOf(state.picture);
-  return { seen: pain + cells.reduce((sum, cell) => sum + seenAt(state, cell), 0), breaks: Boolean(mirror) && mirrorOf(painted(state.picture, cells)) !== mirror };
+  return {
+    seen: pain + cells.reduce((sum, cell) => sum + seenAt(state, cell), 0),
+    breaks: Boolean(mirror) && mirrorOf(painted(state.picture, cells)) !== mirror
+  };
 }
 
 /** How many cells a proposal changes. */
-export const sizeOf = ({ cells = [], given = [] }) => cells.length + given.length;
+export const sizeOf = ({cells = [], given = []}) => cells.length + given.length;
 /** The order of proposals. */
-export const bySize = (one, other) => Number(one.breaks) - Number(other.breaks) || Number(one.goal !== 'lines' && one.open > 0) - Number(other.goal !== 'lines' && other.open > 0) || sizeOf(one) - sizeOf(other) || one.seen - other.seen;
+export const bySize = (one, other) => Number(one.breaks) - Number(other.breaks) ||
+    Number(one.goal !== 'lines' && one.open > 0) -
+        Number(other.goal !== 'lines' && other.open > 0) ||
+    sizeOf(one) - sizeOf(other) || one.seen - other.seen;
 
-/** Repaints about as small as the smallest, and those that are `kept`. What shares no cell with any before comes first: it is another idea. */
+/**
+ * Repaints about as small as the smallest, and those that are `kept`. What shares no cell with any
+ * before comes first: it is another idea.
+ */
 export function ideas(list, most, kept) {
   const [best] = list;
   const near = list.filter((one) => sizeOf(one) <= sizeOf(best) + 1 || kept.has(one));
   const used = new Set();
-  const isNew = ({ cells }) => {
+  const isNew = ({cells}) => {
     const codes = codesOf(cells);
     const is = !codes.some((code) => used.has(code));
     for (const code of codes) used.add(code);

@@ -1,51 +1,122 @@
-// Tools: what a drag over the cells does. While it is made its cells are shown; at its end it is sent as one stroke.
+// Tools: what a drag over the cells does. While it is made its cells are shown; at its end it is
+// sent as one stroke.
 
-import { say } from '../base/elements.js';
-import { tell } from '../base/events.js';
-import { coverOf } from '../document/cover.js';
-import { placeOf } from '../document/document.js';
-import { LETTERS, MOST_CELLS, MOST_COLOURS } from '../document/limits.js';
-import { boxCells, boxOf, bucketCells, lineCells } from '../document/shapes.js';
-import { SYMMETRIES, cellsWith, isPossible } from '../document/symmetry.js';
-import { sheet } from '../draw/sheet.js';
-import { bench } from '../engine/bench.js';
-import { phrase } from '../texts/phrase.js';
-import { alongSelect, beginSelect, endSelect, isSelected, selectPlaces, selectedPlaces, selectionBoxes, setDown } from './select.js';
+import {say} from '../base/elements.js';
+import {tell} from '../base/events.js';
+import {coverOf} from '../document/cover.js';
+import {placeOf} from '../document/document.js';
+import {LETTERS, MOST_CELLS, MOST_COLOURS} from '../document/limits.js';
+import {boxCells, boxOf, bucketCells, lineCells} from '../document/shapes.js';
+import {SYMMETRIES, cellsWith, isPossible} from '../document/symmetry.js';
+import {sheet} from '../draw/sheet.js';
+import {bench} from '../engine/bench.js';
+import {phrase} from '../texts/phrase.js';
+import {alongSelect, beginSelect, endSelect, isSelected, selectPlaces, selectedPlaces, selectionBoxes, setDown} from './select.js';
 
 export const TOOLS = {
-  pencil: { icon: 'M2.5 13.5l.8-3.6 7.6-7.6 2.8 2.8-7.6 7.6z', name: phrase('view.pencil'), key: 'p', hint: phrase('view.dragPaintRightButton') },
-  line: { icon: 'M2.5 13.5l11-11', name: phrase('view.line'), key: 'l', hint: phrase('view.dragFromEndEnd') },
-  rectangle: { icon: 'M2.5 3.5h11v9h-11z', name: phrase('view.rectangle'), key: 'r', hint: phrase('view.outlineHint') },
-  box: { icon: 'M2.5 3.5h11v9h-11z', name: phrase('view.filledRectangle'), key: 'f', hint: phrase('view.filledHint') },
-  bucket: { icon: 'M7.5 2.5l6 6-5 5-6-6zM2.5 7.5h9M13.5 11v2.5', name: phrase('view.bucket'), key: 'b', hint: phrase('view.fillsConnectedCellsOne') },
-  recolour: { icon: 'M2.5 2.5h6v6h-6zM7.5 10.5v3h6v-6h-3', name: phrase('view.recolour'), key: 'e', hint: phrase('view.turnsAllCellsColour') },
-  wand: { icon: 'M2.5 13.5l7-7M11 2v3M9.5 3.5h3M13.5 7v2M12.5 8h2M6 2.5v2M5 3.5h2', name: phrase('view.wand'), key: 'a', hint: phrase('view.selectsConnectedCellsOne') },
-  select: { icon: 'M2.5 5v-2.5h2.5M8 2.5h0M11 2.5h2.5v2.5M13.5 8v0M13.5 11v2.5h-2.5M8 13.5h0M5 13.5h-2.5v-2.5M2.5 8v0', name: phrase('view.select'), key: 's', hint: phrase('view.dragSelectRectangleDrag') },
-  pin: { icon: 'M8 2l5 6-5 6-5-6z', name: phrase('view.giveCells'), key: 'g', hint: phrase('view.givenCellsPrintedPuzzle') },
-  lock: { icon: 'M3.5 7.5h9v6h-9zM5.5 7.5v-2a2.5 2.5 0 015 0v2', name: phrase('view.lockCells'), key: 'k', hint: phrase('view.noRepairChangesLocked') },
-  why: { icon: 'M5.3 6a2.7 2.7 0 115.4 0c0 2.2-2.7 2.2-2.7 4.2M8 13.2v.3', name: phrase('view.why'), key: 'w', hint: phrase('view.pointCellSeeWhy') },
+  pencil: {
+    icon: 'M2.5 13.5l.8-3.6 7.6-7.6 2.8 2.8-7.6 7.6z',
+    name: phrase('view.pencil'),
+    key: 'p',
+    hint: phrase('view.dragPaintRightButton')
+  },
+  line: {
+    icon: 'M2.5 13.5l11-11',
+    name: phrase('view.line'),
+    key: 'l',
+    hint: phrase('view.dragFromEndEnd')
+  },
+  rectangle: {
+    icon: 'M2.5 3.5h11v9h-11z',
+    name: phrase('view.rectangle'),
+    key: 'r',
+    hint: phrase('view.outlineHint')
+  },
+  box: {
+    icon: 'M2.5 3.5h11v9h-11z',
+    name: phrase('view.filledRectangle'),
+    key: 'f',
+    hint: phrase('view.filledHint')
+  },
+  bucket: {
+    icon: 'M7.5 2.5l6 6-5 5-6-6zM2.5 7.5h9M13.5 11v2.5',
+    name: phrase('view.bucket'),
+    key: 'b',
+    hint: phrase('view.fillsConnectedCellsOne')
+  },
+  recolour: {
+    icon: 'M2.5 2.5h6v6h-6zM7.5 10.5v3h6v-6h-3',
+    name: phrase('view.recolour'),
+    key: 'e',
+    hint: phrase('view.turnsAllCellsColour')
+  },
+  wand: {
+    icon: 'M2.5 13.5l7-7M11 2v3M9.5 3.5h3M13.5 7v2M12.5 8h2M6 2.5v2M5 3.5h2',
+    name: phrase('view.wand'),
+    key: 'a',
+    hint: phrase('view.selectsConnectedCellsOne')
+  },
+  select: {
+    icon:
+        'M2.5 5v-2.5h2.5M8 2.5h0M11 2.5h2.5v2.5M13.5 8v0M13.5 11v2.5h-2.5M8 13.5h0M5 13.5h-2.5v-2.5M2.5 8v0',
+    name: phrase('view.select'),
+    key: 's',
+    hint: phrase('view.dragSelectRectangleDrag')
+  },
+  pin: {
+    icon: 'M8 2l5 6-5 6-5-6z',
+    name: phrase('view.giveCells'),
+    key: 'g',
+    hint: phrase('view.givenCellsPrintedPuzzle')
+  },
+  lock: {
+    icon: 'M3.5 7.5h9v6h-9zM5.5 7.5v-2a2.5 2.5 0 015 0v2',
+    name: phrase('view.lockCells'),
+    key: 'k',
+    hint: phrase('view.noRepairChangesLocked')
+  },
+  why: {
+    icon: 'M5.3 6a2.7 2.7 0 115.4 0c0 2.2-2.7 2.2-2.7 4.2M8 13.2v.3',
+    name: phrase('view.why'),
+    key: 'w',
+    hint: phrase('view.pointCellSeeWhy')
+  },
 };
 
-export const tools = { name: 'pencil', colour: 'a', drag: null, symmetry: 'none', adds: false }; // whether the wand adds to what is selected
+export const tools = {
+  name: 'pencil',
+  colour: 'a',
+  drag: null,
+  symmetry: 'none',
+  adds: false
+};  // whether the wand adds to what is selected
 
 /** Has the pens draw symmetric. */
 export function useSymmetry(symmetry) {
   tools.symmetry = sheet.symmetry = symmetry;
-  if (bench.state && !isPossible(symmetry, bench.state)) say(phrase('view.quarterTurnsNeedPicture'), 'alarm');
+  if (bench.state && !isPossible(symmetry, bench.state))
+    say(phrase('view.quarterTurnsNeedPicture'), 'alarm');
   if (sheet.state) sheet.drawMarks();
   tell('symmetry', symmetry);
 }
 
-export const nextSymmetry = () => useSymmetry(SYMMETRIES[(SYMMETRIES.indexOf(tools.symmetry) + 1) % SYMMETRIES.length]);
+export const nextSymmetry = () =>
+    useSymmetry(SYMMETRIES[(SYMMETRIES.indexOf(tools.symmetry) + 1) % SYMMETRIES.length]);
 
-/** Takes the wand, which adds to what is selected from now on, or no longer: for fingers, which have no Shift. */
+/**
+ * Takes the wand, which adds to what is selected from now on, or no longer: for fingers, which
+ * have no Shift.
+ */
 export function useAdding(adds) {
   tools.adds = adds;
   useTool('wand');
 }
 
 // Cells with those that a symmetric pen draws together with them.
-const withImages = (cells) => (tools.symmetry === 'none' ? cells : cells.flatMap((cell) => cellsWith(cell, sheet.doc, tools.symmetry)));
+const withImages = (cells) =>
+    (tools.symmetry === 'none' ?
+         cells :
+         cells.flatMap((cell) => cellsWith(cell, sheet.doc, tools.symmetry)));
 
 /** Chooses a tool. */
 export function useTool(name) {
@@ -58,7 +129,9 @@ export function useTool(name) {
 
 /** Chooses a colour. */
 export function useColour(letter) {
-  if (!bench.state || LETTERS.indexOf(letter) < 0 || LETTERS.indexOf(letter) >= bench.state.colours.length) return;
+  if (!bench.state || LETTERS.indexOf(letter) < 0 ||
+      LETTERS.indexOf(letter) >= bench.state.colours.length)
+    return;
   tools.colour = letter;
   tell('colour', letter);
 }
@@ -70,45 +143,63 @@ export function forgetReason() {
   tell('reason', null);
 }
 
-const indexAt = ({ row, col }) => row * bench.state.columns + col;
+const indexAt = ({row, col}) => row * bench.state.columns + col;
 
 // The set of places that a tool marks or takes marks from.
-const MARKS = { pin: 'givens', lock: 'locks' };
+const MARKS = {
+  pin: 'givens',
+  lock: 'locks'
+};
 
 /** Begins a drag at a cell; `adds` has a selection grow. */
 export function beginDrag(at, adds = false) {
   if (!bench.state) return;
   if (sheet.other) return say(phrase('view.otherPictureGoBack'), 'alarm');
   tell('begun', tools.name);
-  if (tools.name === 'why') return tell('asked', { ...at, letter: tools.colour });
+  if (tools.name === 'why') return tell('asked', {...at, letter: tools.colour});
   if (tools.name === 'select') return beginSelect(at);
   if (tools.name === 'wand') return wandAt(at, adds || tools.adds);
-  if (tools.name === 'bucket') return paintCells(withImages([at]).flatMap((cell) => bucketCells(sheet.doc.picture, cell)));
+  if (tools.name === 'bucket')
+    return paintCells(withImages([at]).flatMap((cell) => bucketCells(sheet.doc.picture, cell)));
   if (tools.name === 'recolour') return recolourAt(at);
   const marks = MARKS[tools.name];
-  tools.drag = { tool: tools.name, from: at, to: at, letter: tools.colour, touched: new Set(), gives: marks !== undefined && !sheet.doc[marks].has(indexAt(at)) };
+  tools.drag = {
+    tool: tools.name,
+    from: at,
+    to: at,
+    letter: tools.colour,
+    touched: new Set(),
+    gives: marks !== undefined && !sheet.doc[marks].has(indexAt(at))
+  };
   alongDrag(at);
 }
 
 /** Goes on to another cell. */
 export function alongDrag(at) {
-  const { drag } = tools;
+  const {drag} = tools;
   if (!drag) return;
   if (drag.tool === 'select') return alongSelect(at);
-  if (drag.tool === 'pencil' || MARKS[drag.tool]) for (const cell of withImages(lineCells(drag.to, at))) drag.touched.add(indexAt(cell));
-  else drag.touched = new Set(withImages(cellsOfShape(drag.tool, drag.from, at)).map(indexAt));
+  if (drag.tool === 'pencil' || MARKS[drag.tool])
+    for (const cell of withImages(lineCells(drag.to, at))) drag.touched.add(indexAt(cell));
+  else
+    drag.touched = new Set(withImages(cellsOfShape(drag.tool, drag.from, at)).map(indexAt));
   drag.to = at;
   if (MARKS[drag.tool]) {
-    sheet.boxes = [...drag.touched].map((index) => { const [row, col] = [Math.floor(index / bench.state.columns), index % bench.state.columns]; return { top: row, left: col, bottom: row, right: col }; });
+    sheet.boxes = [...drag.touched].map((index) => {
+      const [row, col] = [Math.floor(index / bench.state.columns), index % bench.state.columns];
+      return {top: row, left: col, bottom: row, right: col};
+    });
     sheet.drawMarks();
-  } else sheet.preview(new Map([...drag.touched].map((index) => [index, drag.letter])));
+  } else
+    sheet.preview(new Map([...drag.touched].map((index) => [index, drag.letter])));
 }
 
-const cellsOfShape = (tool, from, to) => (tool === 'line' ? lineCells(from, to) : boxCells(boxOf(from, to), tool === 'rectangle'));
+const cellsOfShape = (tool, from, to) =>
+    (tool === 'line' ? lineCells(from, to) : boxCells(boxOf(from, to), tool === 'rectangle'));
 
 /** Ends a drag and sends its stroke. */
 export function endDrag() {
-  const { drag } = tools;
+  const {drag} = tools;
   if (!drag) return;
   if (drag.tool === 'select') return endSelect();
   tools.drag = null;
@@ -121,12 +212,23 @@ export function endDrag() {
 }
 
 // Gives or locks the cells of a drag, or takes that back.
-function endMarks({ tool, gives, touched }) {
+function endMarks({tool, gives, touched}) {
   sheet.boxes = selectionBoxes();
   const places = [...touched].sort((a, b) => a - b);
-  if (tool === 'pin') return sendStroke((doc) => places.filter((place) => doc.givens.has(place) !== gives).map((place) => `${gives ? 'pin' : 'unpin'} ${placeOf(doc, place)}`));
+  if (tool === 'pin')
+    return sendStroke(
+        (doc) => places.filter(
+                           (place) => doc.givens.has(place) !== gives
+        ).map((place) => `${gives ? 'pin' : 'unpin'} ${placeOf(doc, place)}`)
+    );
   setDown();
-  return heard(bench.become((doc) => ({ ...doc, locks: new Set(gives ? [...doc.locks, ...places] : [...doc.locks].filter((place) => !touched.has(place))) })));
+  return heard(bench.become((doc) => ({
+                              ...doc,
+                              locks: new Set(
+                                  gives ? [...doc.locks, ...places] :
+                                          [...doc.locks].filter((place) => !touched.has(place))
+                              )
+                            })));
 }
 
 /** Drops what was begun. */
@@ -138,11 +240,15 @@ export function dropDrag() {
   sheet.drawMarks();
 }
 
-export const paintCells = (cells, letter = tools.colour) => paintPlaces(new Set(cells.map(indexAt)), letter);
+export const paintCells = (cells, letter = tools.colour) =>
+    paintPlaces(new Set(cells.map(indexAt)), letter);
 
 /** Places in one colour, shown until it is answered. */
 export function paintPlaces(places, letter) {
-  return sendStroke((doc) => coverOf(places, doc.picture, letter), new Map([...places].map((place) => [place, letter])));
+  return sendStroke(
+      (doc) => coverOf(places, doc.picture, letter),
+      new Map([...places].map((place) => [place, letter]))
+  );
 }
 
 // Selects the connected cells of one colour, beside what is selected where it `adds`.
@@ -156,28 +262,46 @@ function recolourAt(at) {
   const letter = tools.colour;
   if (isSelected(at)) {
     setDown();
-    const { picture, columns } = bench.seen();
+    const {picture, columns} = bench.seen();
     const source = picture[at.row][at.col];
-    return paintPlaces(new Set([...selectedPlaces()].filter((place) => picture[Math.floor(place / columns)][place % columns] === source)), letter);
+    return paintPlaces(
+        new Set([...selectedPlaces()].filter(
+            (place) => picture[Math.floor(place / columns)][place % columns] === source
+        )),
+        letter
+    );
   }
   const sourceIn = (picture) => picture[at.row]?.[at.col] ?? letter;
-  return sendStroke(({ picture }) => (sourceIn(picture) === letter ? [] : [`recolour ${sourceIn(picture)} ${letter}`]));
+  return sendStroke(
+      ({picture}) =>
+          (sourceIn(picture) === letter ? [] : [`recolour ${sourceIn(picture)} ${letter}`])
+  );
 }
 
 const MEANINGS = {
-  Place: phrase('view.liesOutsidePicture'), Colour: phrase('view.paletteNoSuchColour'), TooLarge: phrase('view.thereLinesAlreadyMost', { most: MOST_CELLS }),
-  LastLine: phrase('view.onlyLine'), PaletteFull: phrase('view.paletteColoursAlready', { most: MOST_COLOURS }), DuplicateColour: phrase('view.paletteColourAlready'),
-  Background: phrase('view.backgroundKeepsColour'), SampleOver: phrase('view.colourTooBrightPicture'), UndoEmpty: phrase('view.thereNothingUndo'),
-  RedoEmpty: phrase('view.thereNothingRedo'), Memory: phrase('view.memoryRanOut'), TwoColoursOnly: phrase('view.nonPuzzleOneColour'),
-  LongLine: phrase('view.tooLong'), BadNumber: phrase('view.numberWrong'), BadColour: phrase('view.colourWrong'),
+  Place: phrase('view.liesOutsidePicture'),
+  Colour: phrase('view.paletteNoSuchColour'),
+  TooLarge: phrase('view.thereLinesAlreadyMost', {most: MOST_CELLS}),
+  LastLine: phrase('view.onlyLine'),
+  PaletteFull: phrase('view.paletteColoursAlready', {most: MOST_COLOURS}),
+  DuplicateColour: phrase('view.paletteColourAlready'),
+  Background: phrase('view.backgroundKeepsColour'),
+  SampleOver: phrase('view.colourTooBrightPicture'),
+  UndoEmpty: phrase('view.thereNothingUndo'),
+  RedoEmpty: phrase('view.thereNothingRedo'),
+  Memory: phrase('view.memoryRanOut'),
+  TwoColoursOnly: phrase('view.nonPuzzleOneColour'),
+  LongLine: phrase('view.tooLong'),
+  BadNumber: phrase('view.numberWrong'),
+  BadColour: phrase('view.colourWrong'),
 };
 
 /** What a refusal says to the user. */
 const meaningOf = (name) => MEANINGS[name] ?? phrase('view.refused');
 
 /**
- * Sends a stroke, on what floated too; tells what was refused. `lines` and `cells` are as the bench has them. A stroke that changes
- * nothing is not sent and not told.
+ * Sends a stroke, on what floated too; tells what was refused. `lines` and `cells` are as the bench
+ * has them. A stroke that changes nothing is not sent and not told.
  */
 export async function sendStroke(lines, cells = null) {
   forgetReason();
@@ -189,18 +313,19 @@ export async function sendStroke(lines, cells = null) {
 export async function heard(promise) {
   try {
     const answers = await promise;
-    const refused = answers.filter((answer) => answer.kind === 'refused' && answer.name !== 'NoChange');
-    if (refused.length) say(phrase('view.notDone', { meaning: meaningOf(refused[0].name) }), 'alarm');
+    const refused =
+        answers.filter((answer) => answer.kind === 'refused' && answer.name !== 'NoChange');
+    if (refused.length) say(phrase('view.notDone', {meaning: meaningOf(refused[0].name)}), 'alarm');
     return refused.length === 0;
   } catch (fault) {
-    say(phrase('view.notDoneEngineFailed', { text: fault.text ?? fault.message }), 'alarm');
+    say(phrase('view.notDoneEngineFailed', {text: fault.text ?? fault.message}), 'alarm');
     return false;
   }
 }
 
 /** What is waited for; null, told, where another picture than now is open by then. */
 export async function whileOpen(promise) {
-  const { term } = bench;
+  const {term} = bench;
   const value = await promise;
   if (value === null || bench.term === term) return value;
   say(phrase('export.otherPictureOpened'), 'alarm');
@@ -208,11 +333,12 @@ export async function whileOpen(promise) {
 }
 
 /**
- * Sets down what floats and waits for strokes that are not answered yet: what is seen is what goes out. What it gives to `work`, the
- * state and its name, stays together whatever opens later. Null where another picture is open by then.
+ * Sets down what floats and waits for strokes that are not answered yet: what is seen is what goes
+ * out. What it gives to `work`, the state and its name, stays together whatever opens later. Null
+ * where another picture is open by then.
  */
 export async function asSeen(work = (seen) => seen) {
   setDown();
   if (await whileOpen(bench.rest().then(() => true)) === null) return null;
-  return work({ state: bench.state, name: bench.name, term: bench.term });
+  return work({state: bench.state, name: bench.name, term: bench.term});
 }

@@ -1,26 +1,34 @@
-// The panel that tells the verdict: its words, the second picture, hatching with its legend, the time of searches, and the
-// line that tells what is searched.
+// The panel that tells the verdict: its words, the second picture, hatching with its legend, the
+// time of searches, and the line that tells what is searched.
 
-import { $, choiceOf, make, say } from '../base/elements.js';
-import { on } from '../base/events.js';
-import { verdictTitle } from '../base/names.js';
-import { capital, linesText, opening } from '../base/words.js';
-import { cellsThatDiffer } from '../document/shapes.js';
-import { sheet } from '../draw/sheet.js';
-import { bench } from '../engine/bench.js';
-import { startEngine } from '../engine/client.js';
-import { Searches } from '../engine/searches.js';
-import { keepChoice, keptChoice } from '../texts/language.js';
-import { phrase } from '../texts/phrase.js';
-import { actionButton, actions, addAction, sayWith } from './actions.js';
-import { canFix, hideFix, isFixing, mayFix, openFix } from './fixing.js';
+import {$, choiceOf, make, say} from '../base/elements.js';
+import {on} from '../base/events.js';
+import {verdictTitle} from '../base/names.js';
+import {capital, linesText, opening} from '../base/words.js';
+import {cellsThatDiffer} from '../document/shapes.js';
+import {sheet} from '../draw/sheet.js';
+import {bench} from '../engine/bench.js';
+import {startEngine} from '../engine/client.js';
+import {Searches} from '../engine/searches.js';
+import {keepChoice, keptChoice} from '../texts/language.js';
+import {phrase} from '../texts/phrase.js';
+import {actionButton, actions, addAction, sayWith} from './actions.js';
+import {canFix, hideFix, isFixing, mayFix, openFix} from './fixing.js';
 
 const TIMES = [['5', '5 s'], ['30', '30 s'], ['', phrase('view.untilStopped')]];
-const HATCHINGS = [['off', phrase('view.pictureAlone')], ['differing', phrase('view.cellsDiffer')], ['open', phrase('view.openCells')]];
+const HATCHINGS = [
+  ['off', phrase('view.pictureAlone')],
+  ['differing', phrase('view.cellsDiffer')],
+  ['open', phrase('view.openCells')]
+];
 
 const KEPT = 'nonobench-seconds';
 
-export const verdictView = { seconds: TIMES.find(([value]) => value === keptChoice(KEPT))?.[0] ?? '5', hatching: null, ended: null };
+export const verdictView = {
+  seconds: TIMES.find(([value]) => value === keptChoice(KEPT))?.[0] ?? '5',
+  hatching: null,
+  ended: null
+};
 export const secondsChosen = () => Number(verdictView.seconds) || Infinity;
 
 export const searches = new Searches({
@@ -33,7 +41,7 @@ export const searches = new Searches({
     if (why === 'time' || why === 'stopped') showVerdict(bench.state);
   },
   failed(name, fault) {
-    say(phrase('view.ended', { name, text: fault.text ?? fault.message }), 'alarm');
+    say(phrase('view.ended', {name, text: fault.text ?? fault.message}), 'alarm');
     showVerdict(bench.state);
   },
 });
@@ -42,21 +50,102 @@ export const searches = new Searches({
 
 function makeVerdictPanel() {
   $('audit').append(
-    make('div', { id: 'verdict-line' }, make('h2', { id: 'verdict' }, '…'), make('span', { id: 'verdict-short' }), make('button', { type: 'button', id: 'verdict-fix', hidden: true, onclick: () => openFix() }, phrase('view.fixTitle')),
-      make('button', { type: 'button', id: 'help-open', 'aria-haspopup': 'menu', popovertarget: 'menu-help', 'aria-label': phrase('view.help') }, '?'),
-      make('button', { type: 'button', id: 'verdict-open', 'aria-expanded': 'false', 'aria-controls': 'verdict-more', onclick: turnVerdictMore }, phrase('view.more'))),
-    make('div', { id: 'verdict-more' },
-      make('p', { id: 'verdict-why' }),
-      make('div', { id: 'verdict-do', class: 'group' }),
-      make('dl', {}, make('dt', { id: 'grade-name' }, phrase('import.grade')), make('dd', { id: 'grade' }), make('dt', {}, phrase('view.fitToPublish')), make('dd', { id: 'fit-row' }, make('span', { id: 'publish' }), make('span', { id: 'publish-do', hidden: true })), make('dt', {}, capital(phrase('view.openCells'))), make('dd', { id: 'open' }), make('dt', {}, phrase('view.cluesChanged')), make('dd', { id: 'changed' })),
-      make('p', {}, make('label', {}, phrase('view.show'), choiceOf({ id: 'hatching', onchange: (event) => setHatching(event.target.value) }, HATCHINGS))),
-      make('p', { id: 'legend', class: 'faint' }),
-      make('p', {}, make('label', {}, phrase('view.searchTime'), choiceOf({ id: 'seconds', onchange: (event) => setSeconds(event.target.value) }, TIMES)))),
+      make(
+          'div',
+          {id: 'verdict-line'},
+          make('h2', {id: 'verdict'}, '…'),
+          make('span', {id: 'verdict-short'}),
+          make(
+              'button',
+              {type: 'button', id: 'verdict-fix', hidden: true, onclick: () => openFix()},
+              phrase('view.fixTitle')
+          ),
+          make(
+              'button',
+              {
+                type: 'button',
+                id: 'help-open',
+                'aria-haspopup': 'menu',
+                popovertarget: 'menu-help',
+                'aria-label': phrase('view.help')
+              },
+              '?'
+          ),
+          make(
+              'button',
+              {
+                type: 'button',
+                id: 'verdict-open',
+                'aria-expanded': 'false',
+                'aria-controls': 'verdict-more',
+                onclick: turnVerdictMore
+              },
+              phrase('view.more')
+          )
+      ),
+      make(
+          'div',
+          {id: 'verdict-more'},
+          make('p', {id: 'verdict-why'}),
+          make('div', {id: 'verdict-do', class: 'group'}),
+          make(
+              'dl',
+              {},
+              make('dt', {id: 'grade-name'}, phrase('import.grade')),
+              make('dd', {id: 'grade'}),
+              make('dt', {}, phrase('view.fitToPublish')),
+              make('dd', {id: 'fit-row'}, make('span', {id: 'publish'}), make('span', {
+                     id: 'publish-do',
+                     hidden: true
+                   })),
+              make('dt', {}, capital(phrase('view.openCells'))),
+              make('dd', {id: 'open'}),
+              make('dt', {}, phrase('view.cluesChanged')),
+              make('dd', {id: 'changed'})
+          ),
+          make(
+              'p',
+              {},
+              make(
+                  'label',
+                  {},
+                  phrase('view.show'),
+                  choiceOf(
+                      {id: 'hatching', onchange: (event) => setHatching(event.target.value)},
+                      HATCHINGS
+                  )
+              )
+          ),
+          make('p', {id: 'legend', class: 'faint'}),
+          make(
+              'p',
+              {},
+              make(
+                  'label',
+                  {},
+                  phrase('view.searchTime'),
+                  choiceOf(
+                      {id: 'seconds', onchange: (event) => setSeconds(event.target.value)}, TIMES
+                  )
+              )
+          )
+      ),
   );
-  $('audit').append(make('p', { id: 'verdict-heard', class: 'unseen', role: 'status' }));
+  $('audit').append(make('p', {id: 'verdict-heard', class: 'unseen', role: 'status'}));
   $('seconds').value = verdictView.seconds;
-  const stop = make('button', { type: 'button', id: 'stop', title: `${phrase('view.stopSearch')} (.)`, onclick: () => searches.stop() }, phrase('view.stop'));
-  $('task').append(make('span', { id: 'task-name' }), make('span', { id: 'task-time', 'aria-hidden': 'true' }), stop);
+  const stop = make(
+      'button',
+      {
+        type: 'button',
+        id: 'stop',
+        title: `${phrase('view.stopSearch')} (.)`,
+        onclick: () => searches.stop()
+      },
+      phrase('view.stop')
+  );
+  $('task').append(
+      make('span', {id: 'task-name'}), make('span', {id: 'task-time', 'aria-hidden': 'true'}), stop
+  );
 }
 
 // On small screens the verdict stands in one line; the rest opens below it.
@@ -64,7 +153,8 @@ function turnVerdictMore() {
   const isOpen = $('audit').classList.toggle('open');
   $('verdict-open').setAttribute('aria-expanded', isOpen);
   $('verdict-open').textContent = isOpen ? phrase('view.less') : phrase('view.more');
-  if (isOpen && $('colours').classList.contains('open')) $('colours-open').click(); // both would cover the picture
+  if (isOpen && $('colours').classList.contains('open'))
+    $('colours-open').click();  // both would cover the picture
 }
 
 export function setSeconds(value) {
@@ -81,62 +171,100 @@ export function setHatching(value) {
 
 function showHatching(state) {
   if (!state) return;
-  const fitting = isFixing() && state.open ? 'open' : { unique: 'off', ambiguous: 'differing', undecided: 'open' }[state.verdict.word];
+  const fitting = isFixing() && state.open ?
+      'open' :
+      {unique: 'off', ambiguous: 'differing', undecided: 'open'}[state.verdict.word];
   sheet.hatching = verdictView.hatching ?? fitting;
   $('hatching').value = sheet.hatching;
   $('legend').textContent = {
     off: '',
-    differing: state.verdict.other ? phrase('view.framedCellsDiffer') : phrase('view.noOtherPictureKnown'),
+    differing: state.verdict.other ? phrase('view.framedCellsDiffer') :
+                                     phrase('view.noOtherPictureKnown'),
     open: phrase('view.hatchedCells'),
   }[sheet.hatching];
   sheet.redraw();
 }
 
 // In how many cells the other picture differs: counted once for each verdict.
-const counted = { verdict: null, count: 0 };
-function differCount({ verdict, picture }) {
-  if (counted.verdict !== verdict) Object.assign(counted, { verdict, count: verdict.other ? cellsThatDiffer(picture, verdict.other).length : 0 });
+const counted = {
+  verdict: null,
+  count: 0
+};
+function differCount({verdict, picture}) {
+  if (counted.verdict !== verdict)
+    Object.assign(
+        counted,
+        {verdict, count: verdict.other ? cellsThatDiffer(picture, verdict.other).length : 0}
+    );
   return counted.count;
 }
 
 // Whether a picture is the only one with its clues because nothing is painted.
-const isBlank = ({ verdict, clues }) => verdict.word === 'unique' && clues.rows.every((blocks) => !blocks.length);
+const isBlank = ({verdict, clues}) =>
+    verdict.word === 'unique' && clues.rows.every((blocks) => !blocks.length);
 
 // The verdict in a few words beside its title.
 function verdictShort(state) {
-  const { word } = state.verdict;
+  const {word} = state.verdict;
   if (isBlank(state)) return phrase('view.nothingPainted');
-  if (word === 'ambiguous') return phrase('view.countDiffer', { cells: differCount(state) });
-  if (word === 'unique') return state.open ? phrase('view.cellsNeedGuessing', { open: state.open, count: state.rows * state.columns }) : phrase('view.noGuessing');
+  if (word === 'ambiguous') return phrase('view.countDiffer', {cells: differCount(state)});
+  if (word === 'unique')
+    return state.open ?
+        phrase('view.cellsNeedGuessing', {open: state.open, count: state.rows * state.columns}) :
+        phrase('view.noGuessing');
   return '';
 }
 
 // The verdict as a title and a sentence.
 function verdictTexts(state) {
-  const { verdict, givens, open } = state;
+  const {verdict, givens, open} = state;
   const size = state.rows * state.columns;
   if (isBlank(state)) return [`○ ${phrase('view.blank')}`, phrase('view.blankOneSolution')];
   if (verdict.word === 'unique') {
-    const with_ = givens.size ? phrase('view.andGivenCells', { cells: givens.size }) : '';
-    return [verdictTitle('unique'), phrase('view.noOtherPictureThese', { with: with_, open: open ? phrase('view.someNeedGuessing', { open, count: size }) : phrase('view.lineLogicSolvesWithout') })];
+    const with_ = givens.size ? phrase('view.andGivenCells', {cells: givens.size}) : '';
+    return [
+      verdictTitle('unique'),
+      phrase('view.noOtherPictureThese', {
+        with: with_,
+        open: open ? phrase('view.someNeedGuessing', {open, count: size}) :
+                     phrase('view.lineLogicSolvesWithout')
+      })
+    ];
   }
-  if (verdict.word === 'ambiguous') return [verdictTitle('ambiguous'), phrase('view.anotherPictureTheseClues', { cells: differCount(state) })];
-  if (searches.running?.judges) return [phrase('view.searching'), phrase('view.noOtherPictureFound')];
-  const why = { time: phrase('view.withinS', { secondsChosen: secondsChosen() }), stopped: phrase('view.beforeStopped') }[verdictView.ended];
-  return [verdictTitle('undecided'), why ? phrase('view.nothingFound', { why }) : phrase('view.nothingFoundYet')];
+  if (verdict.word === 'ambiguous')
+    return [
+      verdictTitle('ambiguous'),
+      phrase('view.anotherPictureTheseClues', {cells: differCount(state)})
+    ];
+  if (searches.running?.judges)
+    return [phrase('view.searching'), phrase('view.noOtherPictureFound')];
+  const why = {
+    time: phrase('view.withinS', {secondsChosen: secondsChosen()}),
+    stopped: phrase('view.beforeStopped')
+  }[verdictView.ended];
+  return [
+    verdictTitle('undecided'),
+    why ? phrase('view.nothingFound', {why}) : phrase('view.nothingFoundYet')
+  ];
 }
 
 function showVerdict(state) {
   if (!state) return;
   const [title, told] = verdictTexts(state);
-  const { word } = state.verdict;
+  const {word} = state.verdict;
   $('audit').dataset.word = isBlank(state) ? '' : word;
   $('verdict').textContent = title;
   $('verdict-why').textContent = told;
   $('verdict-short').textContent = verdictShort(state);
   $('verdict-fix').hidden = word !== 'ambiguous';
-  $('open').textContent = phrase('view.openOfCells', { open: state.open, cells: state.rows * state.columns });
-  $('changed').textContent = [state.changed.rows, state.changed.columns].map((lines, axis) => linesText(axis === 0, [...lines].map((at) => at + 1))).filter(Boolean).join('; ') || phrase('view.none');
+  $('open').textContent =
+      phrase('view.openOfCells', {open: state.open, cells: state.rows * state.columns});
+  $('changed').textContent =
+      [state.changed.rows, state.changed.columns]
+          .map((lines, axis) => linesText(axis === 0, [...lines].map((at) => at + 1)))
+          .filter(Boolean)
+          .join('; ') ||
+      phrase('view.none');
   $('changed').title = $('changed').textContent;
   if (word !== 'ambiguous') sheet.other = false;
   showVerdictButtons();
@@ -147,10 +275,14 @@ function showVerdictButtons() {
     const action = actions.get(button.dataset.action);
     button.hidden = !action.can();
     if (action.id === 'other') {
-      button.textContent = sheet.other ? phrase('view.backYourPicture') : phrase('view.showOtherPicture');
+      button.textContent =
+          sheet.other ? phrase('view.backYourPicture') : phrase('view.showOtherPicture');
       button.setAttribute('aria-pressed', sheet.other === true);
     }
-    if (action.id === 'search') button.textContent = verdictView.seconds === '' ? phrase('view.searchUntilStopped') : phrase('view.searchS', { seconds: verdictView.seconds });
+    if (action.id === 'search')
+      button.textContent = verdictView.seconds === '' ?
+          phrase('view.searchUntilStopped') :
+          phrase('view.searchS', {seconds: verdictView.seconds});
   }
   if (!mayFix()) hideFix();
 }
@@ -164,9 +296,10 @@ function showTask(task) {
     return;
   }
   if ($('task-name').textContent !== task.name) $('task-name').textContent = task.name;
-  const seconds = Math.min(task.seconds, secondsChosen()); // what is beyond is there to end in
-  const of = Number.isFinite(seconds) ? phrase('view.of', { seconds }) : '';
-  $('task-time').textContent = `${Math.floor(Math.min(task.elapsed, seconds))}${of} s${task.note ? ` · ${task.note}` : ''}`;
+  const seconds = Math.min(task.seconds, secondsChosen());  // what is beyond is there to end in
+  const of = Number.isFinite(seconds) ? phrase('view.of', {seconds}) : '';
+  $('task-time').textContent =
+      `${Math.floor(Math.min(task.elapsed, seconds))}${of} s${task.note ? ` · ${task.note}` : ''}`;
   if (task.elapsed < 0.01) showVerdict(bench.state);
 }
 
@@ -176,10 +309,15 @@ function showOther(other) {
   sheet.redraw();
 }
 
-// Whether a certificate with lemmas may do better than a tree, or than none: it has no givens, and line logic alone needs neither.
-const mayProve = (state) => state && state.open > 0 && !state.givens.size && state.verdict.word !== 'ambiguous' && [null, 'time'].includes(verdictView.ended);
+// Whether a certificate with lemmas may do better than a tree, or than none: it has no givens, and
+// line logic alone needs neither.
+const mayProve = (state) => state && state.open > 0 && !state.givens.size &&
+    state.verdict.word !== 'ambiguous' && [null, 'time'].includes(verdictView.ended);
 
-/** A certificate of the present picture as a text, the shorter of two that are made, or null; what is found is told as the verdict. */
+/**
+ * A certificate of the present picture as a text, the shorter of two that are made, or null; what
+ * is found is told as the verdict.
+ */
 export async function certificateText() {
   if (isWord('ambiguous')) {
     sayWith(phrase('view.thereNoCertificateAnother'), 'alarm', 'fix');
@@ -192,12 +330,14 @@ export async function certificateText() {
     if (lemmas && !(text?.length <= lemmas.length)) text = lemmas;
   }
   const why = {
-    time: phrase('view.noCertificateFoundWithin', { secondsChosen: secondsChosen() }),
+    time: phrase('view.noCertificateFoundWithin', {secondsChosen: secondsChosen()}),
     stopped: phrase('view.searchCertificateStopped'),
     stroke: phrase('view.searchCertificateStopped'),
   }[verdictView.ended];
-  if (text === null && why) say(why);
-  else if (text === null && isWord('ambiguous')) sayWith(phrase('view.thereNoCertificateAnother'), 'alarm', 'fix');
+  if (text === null && why)
+    say(why);
+  else if (text === null && isWord('ambiguous'))
+    sayWith(phrase('view.thereNoCertificateAnother'), 'alarm', 'fix');
   return text;
 }
 
@@ -205,11 +345,11 @@ const isWord = (word) => bench.state?.verdict.word === word;
 function nextHatching() {
   const names = HATCHINGS.map(([value]) => value);
   setHatching(names[(names.indexOf(sheet.hatching) + 1) % names.length]);
-  say(phrase('view.shown', { hatching: HATCHINGS.find(([value]) => value === sheet.hatching)[1] }));
+  say(phrase('view.shown', {hatching: HATCHINGS.find(([value]) => value === sheet.hatching)[1]}));
 }
 
-// For those who hear the page: the verdict, where it is another one. Those who see it read it in the panel, and what the line
-// at the top says stays there.
+// For those who hear the page: the verdict, where it is another one. Those who see it read it in
+// the panel, and what the line at the top says stays there.
 let saidVerdict = '';
 function sayVerdict(state) {
   const [title] = verdictTexts(state);
@@ -220,20 +360,43 @@ function sayVerdict(state) {
 
 /** The actions of the menu Check, and the listeners that keep the panel. */
 export function startVerdict() {
-  for (const action of [
-    { id: 'other', name: phrase('view.showOtherPicture'), key: 'x', run: () => showOther(!sheet.other), can: () => isWord('ambiguous') },
-    { id: 'fix', name: opening(phrase('view.fixTitle')), run: () => openFix(), can: canFix },
-    { id: 'search', name: phrase('view.searchAnotherPicture'), run: () => searches.judge(), can: () => isWord('undecided') && !searches.running },
-    { id: 'stop', name: phrase('view.stopSearch'), key: '.', run: () => searches.stop(), can: () => searches.running !== null },
-    { id: 'hatching', name: phrase('view.showOpenCellsThose'), key: 'h', run: nextHatching },
-  ]) addAction({ place: 'check', ...action });
+  for (const action of
+           [{
+             id: 'other',
+             name: phrase('view.showOtherPicture'),
+             key: 'x',
+             run: () => showOther(!sheet.other),
+             can: () => isWord('ambiguous')
+           },
+            {id: 'fix', name: opening(phrase('view.fixTitle')), run: () => openFix(), can: canFix},
+            {
+              id: 'search',
+              name: phrase('view.searchAnotherPicture'),
+              run: () => searches.judge(),
+              can: () => isWord('undecided') && !searches.running
+            },
+            {
+              id: 'stop',
+              name: phrase('view.stopSearch'),
+              key: '.',
+              run: () => searches.stop(),
+              can: () => searches.running !== null
+            },
+            {id: 'hatching', name: phrase('view.showOpenCellsThose'), key: 'h', run: nextHatching},
+  ])
+    addAction({place: 'check', ...action});
   on('stroke', () => searches.strokeBegun());
-  on('opened', () => { verdictView.hatching = null; });
+  on('opened', () => {
+    verdictView.hatching = null;
+  });
   on('fixing', (is) => {
-    if (is && $('audit').classList.contains('open')) turnVerdictMore(); // on a small screen it would cover the proposals
+    if (is && $('audit').classList.contains('open'))
+      turnVerdictMore();  // on a small screen it would cover the proposals
     showHatching(bench.state);
   });
-  on('shown', () => { verdictView.ended = null; });
+  on('shown', () => {
+    verdictView.ended = null;
+  });
   for (const name of /** @type {['shown', 'judged']} */ (['shown', 'judged'])) {
     on(name, (state) => {
       searches[name](state);
@@ -247,6 +410,7 @@ export function startVerdict() {
 /** Fills the panel. */
 export function showVerdictPanel() {
   makeVerdictPanel();
-  for (const id of ['other', 'fix', 'aim', 'search', 'play', 'walk']) $('verdict-do').append(actionButton(actions.get(id)));
+  for (const id of ['other', 'fix', 'aim', 'search', 'play', 'walk'])
+    $('verdict-do').append(actionButton(actions.get(id)));
   for (const id of ['export-site', 'share']) $('publish-do').append(actionButton(actions.get(id)));
 }

@@ -39,7 +39,10 @@ def p3(rows, background=None):
 
 def webpbn(rows, title="", more="", kind="grid"):
     """A puzzle in Web Paint-by-Number's XML, of white, black and red cells."""
-    image = "".join("|" + "".join({".": ".", "a": "X", "b": "r"}[letter] for letter in row) + "|" for row in rows)
+    image = "".join(
+        "|" + "".join({".": ".", "a": "X", "b": "r"}[letter] for letter in row) + "|"
+        for row in rows
+    )
     return (
         f'<puzzle type="{kind}"><title>{title}</title><color name="red" char="r">f00</color>'
         f'<solution type="goal"><image>{image}</image></solution>{more}</puzzle>'
@@ -49,7 +52,9 @@ def webpbn(rows, title="", more="", kind="grid"):
 def chequered(side, colours):
     """A picture with so many solutions, and so many colours on each of its lines, that no search ends in time."""
     letters = "abcdefghijklmno"[: colours - 1] + "."
-    return ["".join(letters[(row + column) % colours] for column in range(side)) for row in range(side)]
+    return [
+        "".join(letters[(row + column) % colours] for column in range(side)) for row in range(side)
+    ]
 
 
 class Case(unittest.TestCase):
@@ -73,16 +78,30 @@ class Case(unittest.TestCase):
         """The command line of a run, apart from the folder that it runs in. Where no bound is named, no puzzle is too slow for it."""
         is_bounded = {"merge", "--seconds", "--allow"}.intersection(words)
         is_shared = {"merge", "--jobs"}.intersection(words)
-        more = [*([] if is_bounded else ["--seconds", str(PATIENCE)]), *([] if is_shared else ["--jobs", JOBS])]
+        more = [
+            *([] if is_bounded else ["--seconds", str(PATIENCE)]),
+            *([] if is_shared else ["--jobs", JOBS]),
+        ]
         return [sys.executable, "-m", "nonobench.audit", *map(str, words), *more]
 
     def env(self, **more):
-        return {**os.environ, "PYTHONPATH": str(ROOT / "python" / "src"), "PYTHONDONTWRITEBYTECODE": "1", **more}
+        return {
+            **os.environ,
+            "PYTHONPATH": str(ROOT / "python" / "src"),
+            "PYTHONDONTWRITEBYTECODE": "1",
+            **more,
+        }
 
     def run_audit(self, *words, status=None, **more):
         """A run: what it printed, what it said, and its status, which is looked at where it is given."""
         done = subprocess.run(
-            self.words(*words), cwd=self.folder, env=self.env(**more), capture_output=True, text=True, check=False, timeout=PATIENCE
+            self.words(*words),
+            cwd=self.folder,
+            env=self.env(**more),
+            capture_output=True,
+            text=True,
+            check=False,
+            timeout=PATIENCE,
         )
         if status is not None:
             self.assertEqual(done.returncode, status, done.stdout + done.stderr)
@@ -103,7 +122,12 @@ class Case(unittest.TestCase):
     def start(self, *words, **more):
         """A run that goes on beside the test."""
         process = subprocess.Popen(
-            self.words(*words), cwd=self.folder, env=self.env(**more), stdout=subprocess.PIPE, stderr=subprocess.PIPE, text=True
+            self.words(*words),
+            cwd=self.folder,
+            env=self.env(**more),
+            stdout=subprocess.PIPE,
+            stderr=subprocess.PIPE,
+            text=True,
         )
         self.addCleanup(process.wait)
         self.addCleanup(process.kill)

@@ -21,14 +21,23 @@ def seen(pid):
     """A process."""
     try:
         words = Path(f"/proc/{pid}/stat").read_text(errors="replace").rpartition(")")[2].split()
-        return Seen(words[0], int(words[1]), int(words[17]), (int(words[11]) + int(words[12])) / os.sysconf("SC_CLK_TCK"))
+        return Seen(
+            words[0],
+            int(words[1]),
+            int(words[17]),
+            (int(words[11]) + int(words[12])) / os.sysconf("SC_CLK_TCK"),
+        )
     except (OSError, IndexError):
         return GONE
 
 
 def children(parent):
     """The processes that a process started, those too that have ended and that it has not waited for."""
-    return [pid for pid in map(int, filter(str.isdigit, os.listdir("/proc"))) if seen(pid).parent == parent]
+    return [
+        pid
+        for pid in map(int, filter(str.isdigit, os.listdir("/proc")))
+        if seen(pid).parent == parent
+    ]
 
 
 def is_running(pid):

@@ -61,9 +61,21 @@ def pair(site, name, picture=DIAGONAL, certificate=DIAGONAL_CERT, ending="cert",
 
 def started(stdout, encoding="utf-8", stderr=subprocess.PIPE, more=("--quiet",)):
     """Runs it in a process of its own."""
-    env = {**os.environ, "PYTHONPATH": str(Path(nonobench.__file__).resolve().parent.parent), "PYTHONIOENCODING": encoding}
+    env = {
+        **os.environ,
+        "PYTHONPATH": str(Path(nonobench.__file__).resolve().parent.parent),
+        "PYTHONIOENCODING": encoding,
+    }
     words = [sys.executable, "-m", "nonobench.check_site", "site", *more]
-    return subprocess.run(words, stdout=stdout, stderr=stderr, encoding=encoding, timeout=PATIENCE, env=env, check=False)
+    return subprocess.run(
+        words,
+        stdout=stdout,
+        stderr=stderr,
+        encoding=encoding,
+        timeout=PATIENCE,
+        env=env,
+        check=False,
+    )
 
 
 def test_endings_in_any_letters(site, checked):
@@ -92,14 +104,17 @@ def test_what_is_refused_and_what_is_missing(site, checked):
     pair(site, "picture", "P6")
     pair(site, "long", certificate="nonolemma 1\n" + "line r 1\n" * 1864136 + LEMMAS[12:])
     pair(site, "empty", certificate="")
-    assert checked("site") == (3, [
-        "site/cut.cert: certificate Ended at line 3",
-        "site/empty.cert: certificate NotCert at line 1",
-        "site/long.cert: more than 16777216 bytes",
-        "site/none.cert: its picture: No such file or directory",
-        "site/other.cert: certificate NotDead at line 5",
-        "site/picture.cert: ppm NotP3 at byte 0",
-    ])
+    assert checked("site") == (
+        3,
+        [
+            "site/cut.cert: certificate Ended at line 3",
+            "site/empty.cert: certificate NotCert at line 1",
+            "site/long.cert: more than 16777216 bytes",
+            "site/none.cert: its picture: No such file or directory",
+            "site/other.cert: certificate NotDead at line 5",
+            "site/picture.cert: ppm NotP3 at byte 0",
+        ],
+    )
     for name in ("none", "long"):
         (site / f"{name}.cert").unlink()
     assert checked("site")[0] == 1
@@ -113,10 +128,19 @@ def test_all_forms_and_endings_of_a_certificate(site, checked, capsys):
     pair(site, "capitals", ending="CERT")
     pair(site, "capitals", certificate="x", ending="PROOF")
     assert check_site.main(["site"]) == 0
-    assert capsys.readouterr() == ("", "".join(f"nonobench-check-site: site/{name}: not read, since a .cert is there\n" for name in (
-        "both.Proof", "capitals.PROOF")) + "accepted 4, refused 0, not read 0\n")
+    assert capsys.readouterr() == (
+        "",
+        "".join(
+            f"nonobench-check-site: site/{name}: not read, since a .cert is there\n"
+            for name in ("both.Proof", "capitals.PROOF")
+        )
+        + "accepted 4, refused 0, not read 0\n",
+    )
     (site / "both.cert").unlink()
-    assert checked("site", "--shard", "2/4") == (1, ["site/both.Proof: certificate NotCert at line 1"])
+    assert checked("site", "--shard", "2/4") == (
+        1,
+        ["site/both.Proof: certificate NotCert at line 1"],
+    )
 
 
 def test_givens_are_those_that_are_published(site, checked):
@@ -128,16 +152,19 @@ def test_givens_are_those_that_are_published(site, checked):
     pair(site, "words", CROSS, ONE, givens="given 1 x\n")
     pair(site, "twice", CROSS, ONE, givens="given 1 1\ngiven 2 2\ngiven 1 1\n")
     pair(site, "wide", CROSS, ONE, givens="given 1 1\ngiven 1 3\n")
-    assert checked("site") == (1, [
-        "site/all.cert: certificate UnpublishedGiven at line 2",
-        "site/more.cert: flaw spare 2 2",
-        "site/none.cert: certificate UnpublishedGiven at line 2",
-        "site/other.cert: certificate UnpublishedGiven at line 2",
-        "site/three.cert: certificate UnpublishedGiven at line 4",
-        "site/twice.cert: givens Repeated at line 3",
-        "site/wide.cert: givens Place at line 2",
-        "site/words.cert: givens BadLine at line 1",
-    ])
+    assert checked("site") == (
+        1,
+        [
+            "site/all.cert: certificate UnpublishedGiven at line 2",
+            "site/more.cert: flaw spare 2 2",
+            "site/none.cert: certificate UnpublishedGiven at line 2",
+            "site/other.cert: certificate UnpublishedGiven at line 2",
+            "site/three.cert: certificate UnpublishedGiven at line 4",
+            "site/twice.cert: givens Repeated at line 3",
+            "site/wide.cert: givens Place at line 2",
+            "site/words.cert: givens BadLine at line 1",
+        ],
+    )
 
 
 def test_a_folder_that_is_a_link_is_not_followed(site, checked, tmp_path):
@@ -171,18 +198,30 @@ def test_files_of_a_picture_that_is_called_as_another_one_with_its_suffix(site, 
     own = (), ("--givens", "site"), ("--givens", "way")
     for words in (*own, ("--givens", "ours"), ("--givens", "ours", "--untrusted")):
         assert checked("site", *words) == (0, [])
-    for make in (lambda place: place.symlink_to("nowhere"), os.mkdir, lambda place: place.write_text(CROSS)):
+    for make in (
+        lambda place: place.symlink_to("nowhere"),
+        os.mkdir,
+        lambda place: place.write_text(CROSS),
+    ):
         make(site / "one.ppm.ppm")
         refused = ["site/one.cert: certificate UnpublishedGiven at line 2"]
         for words in own:  # a folder is no picture
             assert checked("site", *words) == ((0, []) if make is os.mkdir else (1, refused))
         assert checked("site", "--givens", "ours", "--untrusted") == (0, [])
         (site / "one.ppm.ppm").rename(tmp_path / "gone")
-        (tmp_path / "gone").rmdir() if (tmp_path / "gone").is_dir() else (tmp_path / "gone").unlink()
+        (tmp_path / "gone").rmdir() if (tmp_path / "gone").is_dir() else (
+            tmp_path / "gone"
+        ).unlink()
     pair(site, "one.ppm", CROSS, ONE)
-    assert checked("site", "--givens", "ours") == (1, ["site/one.ppm.cert: certificate UnpublishedGiven at line 2"])
+    assert checked("site", "--givens", "ours") == (
+        1,
+        ["site/one.ppm.cert: certificate UnpublishedGiven at line 2"],
+    )
     pair(tmp_path / "ours", "one.ppm.ppm", None, None, givens="given 2 2\n")
-    assert checked("site", "--givens", "ours") == (1, ["site/one.ppm.cert: certificate UnpublishedGiven at line 2"])
+    assert checked("site", "--givens", "ours") == (
+        1,
+        ["site/one.ppm.cert: certificate UnpublishedGiven at line 2"],
+    )
 
 
 def test_givens_that_may_be_another_pictures_are_not_believed(site, checked, tmp_path):
@@ -192,7 +231,10 @@ def test_givens_that_may_be_another_pictures_are_not_believed(site, checked, tmp
     (site / "one.PPM").write_text(CROSS)
     (site / "one.PPM.cert").write_text(ONE)
     why = "its givens: one.givens may be another puzzle's: call it"
-    assert checked("site", "--givens", "ours", "--untrusted") == (3, [f"site/one.PPM.cert: {why} one.PPM.givens", f"site/one.cert: {why} one.ppm.givens"])
+    assert checked("site", "--givens", "ours", "--untrusted") == (
+        3,
+        [f"site/one.PPM.cert: {why} one.PPM.givens", f"site/one.cert: {why} one.ppm.givens"],
+    )
 
 
 def test_folders_are_gone_through_one_after_another(site, checked, tmp_path):
@@ -200,7 +242,9 @@ def test_folders_are_gone_through_one_after_another(site, checked, tmp_path):
     for name in range(60):
         pair(site, f"{name % 6}/{name}")
     (tmp_path / "ours").mkdir()
-    with unittest.mock.patch.object(finding, "by_small_endings", wraps=finding.by_small_endings) as sorted_out:
+    with unittest.mock.patch.object(
+        finding, "by_small_endings", wraps=finding.by_small_endings
+    ) as sorted_out:
         assert checked("site", "--givens", "ours")[0] == 3
     assert finding._folder.cache_info().misses <= 2 * 6
     assert sorted_out.call_count <= 1 + 2 * 2 * 6
@@ -210,11 +254,16 @@ def test_a_folder_that_cannot_be_searched_is_not_empty(site, checked, tmp_path):
     pair(site / "sub", "one", CROSS, ONE)
     (tmp_path / "ours").mkdir()
     (tmp_path / "ours" / "sub").symlink_to("sub")
-    assert checked("site", "--givens", "ours") == (3, ["site/sub/one.cert: its givens: this is a link"])
+    assert checked("site", "--givens", "ours") == (
+        3,
+        ["site/sub/one.cert: its givens: this is a link"],
+    )
 
 
 def test_a_path_that_is_too_long_is_not_nothing(site, checked, tmp_path, monkeypatch):
-    deep = Path(*["d" * 200] * 18)  # below the site its names are short enough, and below the other folder they are not
+    deep = Path(
+        *["d" * 200] * 18
+    )  # below the site its names are short enough, and below the other folder they are not
     room = 4070 - len(bytes(site)) - len(bytes(deep))
     stem = deep / ("d" * (room // 2)) / ("e" * (room - room // 2 - len("//.cert")))
     ours = tmp_path / ("o" * 60)
@@ -242,12 +291,17 @@ def test_givens_and_backgrounds_of_the_site_and_not_of_strangers(site, checked, 
     assert checked("site", *allowed) == (0, [])
     ours = tmp_path / "ours"
     ours.mkdir()
-    refused = ["site/filled.cert: certificate NotDone at line 4", "site/given.cert: certificate UnpublishedGiven at line 2"]
+    refused = [
+        "site/filled.cert: certificate NotDone at line 4",
+        "site/given.cert: certificate UnpublishedGiven at line 2",
+    ]
     assert checked("site", "--untrusted") == (1, refused)
     (ours / "other.givens").write_text("")
     none = "ours/: no file of givens or background in it is of one of these puzzles"
     assert checked("site", "--givens", "ours") == (3, [*refused, none])
-    assert all(none in checked("site", "--givens", "ours", "--shard", share)[1] for share in ("1/2", "2/2"))
+    assert all(
+        none in checked("site", "--givens", "ours", "--shard", share)[1] for share in ("1/2", "2/2")
+    )
     (ours / "filled.background").write_text("255,0,255")
     (ours / "given.givens").write_text("given 1 1")
     for more in ((), ("--untrusted",), ("--shard", "1/3"), ("--shard", "2/3"), ("--shard", "3/3")):
@@ -263,12 +317,15 @@ def test_backgrounds(site, checked):
     (site / "link.background").symlink_to("nowhere")
     pair(site, "white", cells, filled, background="white\n")
     pair(site, "word", cells, filled, background="red\n")
-    assert checked("site") == (3, [
-        "site/black.cert: certificate NotDone at line 4",
-        "site/corner.cert: its background must be white or R,G,B",
-        "site/link.cert: its background: this is a link",
-        "site/word.cert: its background must be white, corner, or R,G,B of numbers up to 65535",
-    ])
+    assert checked("site") == (
+        3,
+        [
+            "site/black.cert: certificate NotDone at line 4",
+            "site/corner.cert: its background must be white or R,G,B",
+            "site/link.cert: its background: this is a link",
+            "site/word.cert: its background must be white, corner, or R,G,B of numbers up to 65535",
+        ],
+    )
 
 
 def test_pictures_whose_endings_are_in_capitals(site, checked):
@@ -285,17 +342,27 @@ def test_what_lies_beside_a_picture_is_called_as_for_an_audit(site, checked):
     pair(site, "given", CROSS, ONE, GIVENS="given 1 1\n")
     pair(site, "none", CROSS, ONE, **{"ppm.givens": "given 2 2\n", "givens": "given 1 1\n"})
     pair(site, "whole", cells, filled, **{"ppm.background": "0,0,0", "background": "white"})
-    assert checked("site") == (1, [
-        "site/capitals.cert: certificate NotDone at line 4", "site/none.cert: certificate UnpublishedGiven at line 2",
-        "site/whole.cert: certificate NotDone at line 4",
-    ])
+    assert checked("site") == (
+        1,
+        [
+            "site/capitals.cert: certificate NotDone at line 4",
+            "site/none.cert: certificate UnpublishedGiven at line 2",
+            "site/whole.cert: certificate NotDone at line 4",
+        ],
+    )
 
 
 def test_what_lies_beside_a_picture_is_bounded_as_a_picture_is(site, checked):
     pair(site, "blanks", background=" " * 70 + "white\n" + " " * 70)
     pair(site, "long", CROSS, ONE, givens="x" * 16777217)
     pair(site, "longer", background="white" + " " * 16777212)
-    assert checked("site") == (3, [f"site/{name}: more than 16777216 bytes" for name in ("long.cert: its givens", "longer.cert: its background")])
+    assert checked("site") == (
+        3,
+        [
+            f"site/{name}: more than 16777216 bytes"
+            for name in ("long.cert: its givens", "longer.cert: its background")
+        ],
+    )
 
 
 def test_each_certificate_is_of_one_picture(site, checked, tmp_path):
@@ -307,8 +374,14 @@ def test_each_certificate_is_of_one_picture(site, checked, tmp_path):
     pair(site, "one", certificate=None)
     pair(site, "one.ppm", CROSS, None, **{"ppm.givens": "given 1 1\n"})
     assert checked("site") == (0, [])
-    assert checked("site", "--certificates", "own") == (1, ["own/one.ppm.cert: certificate UnpublishedGiven at line 2"])
-    found = {Path(one.path).name: [Path(way).name for _, way in one.beside] for one in finding.find(["site"], finding.Places("own"))}
+    assert checked("site", "--certificates", "own") == (
+        1,
+        ["own/one.ppm.cert: certificate UnpublishedGiven at line 2"],
+    )
+    found = {
+        Path(one.path).name: [Path(way).name for _, way in one.beside]
+        for one in finding.find(["site"], finding.Places("own"))
+    }
     assert found == {"one.ppm": ["one.ppm.cert"], "one.ppm.ppm": []}
     (own / "one.ppm.cert").rename(own / "one.ppm.ppm.cert")
     assert checked("site", "--certificates", "own") == (0, [])
@@ -318,8 +391,16 @@ def test_each_certificate_is_of_one_picture(site, checked, tmp_path):
     assert checked("site") == (0, [])
 
 
-@pytest.mark.parametrize("option, said", [("--givens", "site/sub/in/one.cert: its givens: No such file or directory"), ("--certificates", "own/sub: this is a link")])
-def test_a_folder_behind_a_link_that_leads_nowhere_is_not_missing(site, checked, tmp_path, option, said):
+@pytest.mark.parametrize(
+    "option, said",
+    [
+        ("--givens", "site/sub/in/one.cert: its givens: No such file or directory"),
+        ("--certificates", "own/sub: this is a link"),
+    ],
+)
+def test_a_folder_behind_a_link_that_leads_nowhere_is_not_missing(
+    site, checked, tmp_path, option, said
+):
     pair(site, "sub/in/one")
     pair(tmp_path / "own", "two", None)
     pair(site, "two")
@@ -332,7 +413,10 @@ def test_numbers_of_a_given_that_are_too_long(site, checked):
     pair(site, "long", CROSS, f"nonocert 2\ngiven {'1' * 5000} 1\ndone\n")
     pair(site, "one")
     pair(site, "zeros", CROSS, f"nonocert 2\ngiven 1 {'0' * 5000}1\ndone\n")
-    assert checked("site") == (1, [f"site/{name}.cert: certificate BadLine at line 2" for name in ("long", "zeros")])
+    assert checked("site") == (
+        1,
+        [f"site/{name}.cert: certificate BadLine at line 2" for name in ("long", "zeros")],
+    )
 
 
 def test_an_editor_that_changed_a_certificate_is_told(site, checked):
@@ -340,10 +424,13 @@ def test_an_editor_that_changed_a_certificate_is_told(site, checked):
     (site / "crlf.cert").write_bytes(DIAGONAL_CERT.replace("\n", "\r\n").encode())
     pair(site, "utf16")
     (site / "utf16.cert").write_text(DIAGONAL_CERT, encoding="utf-16")
-    assert checked("site") == (1, [
-        "site/crlf.cert: certificate NotCert at line 1 (its lines end with CR LF, and must end with LF alone)",
-        "site/utf16.cert: certificate NotCert at line 1 (it is UTF-16, and must be ASCII)",
-    ])
+    assert checked("site") == (
+        1,
+        [
+            "site/crlf.cert: certificate NotCert at line 1 (its lines end with CR LF, and must end with LF alone)",
+            "site/utf16.cert: certificate NotCert at line 1 (it is UTF-16, and must be ASCII)",
+        ],
+    )
 
 
 @pytest.mark.parametrize("ending", ["cert", "proof", "ppm", "givens", "background"])
@@ -358,12 +445,24 @@ def test_nothing_but_regular_files_is_read(site, ending):
         pair(site, name, **{"cert" if ending == "proof" else ending: None})
         make(site / f"{name}.{ending}")
     run = started(stdout=subprocess.PIPE)
-    whys = {"device": "this is a link", "folder": "this folder is not read", "link": "this is a link", "pipe": "this is not a file"}
+    whys = {
+        "device": "this is a link",
+        "folder": "this folder is not read",
+        "link": "this is a link",
+        "pipe": "this is not a file",
+    }
     if ending != "ppm":
         del whys["folder"]
-    whose = {"ppm": "its picture: ", "givens": "its givens: ", "background": "its background: "}.get(ending, "")
+    whose = {
+        "ppm": "its picture: ",
+        "givens": "its givens: ",
+        "background": "its background: ",
+    }.get(ending, "")
     file = "proof" if ending == "proof" else "cert"
-    assert (run.returncode, run.stdout.splitlines()) == (3, [f"site/{name}.{file}: {whose}{why}" for name, why in whys.items()])
+    assert (run.returncode, run.stdout.splitlines()) == (
+        3,
+        [f"site/{name}.{file}: {whose}{why}" for name, why in whys.items()],
+    )
 
 
 def test_folders_that_are_no_site(site, checked, tmp_path):
@@ -373,7 +472,15 @@ def test_folders_that_are_no_site(site, checked, tmp_path):
     assert checked("link") == (0, [])
     (site / "inner").symlink_to(tmp_path)
     assert checked("site") == (0, [])
-    for words in (["nowhere"], [], ["site", "site"], ["site", "--jobs", "0"], ["site", "--shard", "3/2"], ["site/diagonal.cert"], ["site", "--job=3"]):
+    for words in (
+        ["nowhere"],
+        [],
+        ["site", "site"],
+        ["site", "--jobs", "0"],
+        ["site", "--shard", "3/2"],
+        ["site/diagonal.cert"],
+        ["site", "--job=3"],
+    ):
         with pytest.raises(SystemExit) as ended:
             check_site.main(words)
         assert ended.value.code == 2, words
@@ -395,7 +502,18 @@ def test_a_folder_that_cannot_be_searched(site, checked, monkeypatch):
 
 def test_odd_names(site, checked, tmp_path):
     cut = "nonocert 1\n"
-    names = ["--", "-x", "answer_pack/nonobench/names/check_pair/x", " ", "a\\nb", "$(id)", "*", "'", '"', "--background 0,0,0"]
+    names = [
+        "--",
+        "-x",
+        "answer_pack/nonobench/names/check_pair/x",
+        " ",
+        "a\\nb",
+        "$(id)",
+        "*",
+        "'",
+        '"',
+        "--background 0,0,0",
+    ]
     for name in names:
         pair(site, name)
     assert checked("site") == (0, [])
@@ -404,16 +522,30 @@ def test_odd_names(site, checked, tmp_path):
     odd = os.fsdecode(bytes(site) + b"/\xff")
     for end, text in (("ppm", DIAGONAL), ("cert", cut)):
         Path(f"{odd}.{end}").write_text(text)
-    assert checked("site") == (1, [
-        "site/line\\nfeed\\x1b[31m\\u2028\\u202e.cert: certificate Ended at line 2",
-        "site/\\xff.cert: certificate Ended at line 2",
-    ])
+    assert checked("site") == (
+        1,
+        [
+            "site/line\\nfeed\\x1b[31m\\u2028\\u202e.cert: certificate Ended at line 2",
+            "site/\\xff.cert: certificate Ended at line 2",
+        ],
+    )
     pair(tmp_path / "-name", "x")
     assert checked("--", "-name") == (0, [])
 
 
 def test_no_two_names_are_printed_alike(site, checked):
-    names = (b"a\nb", b"a\\nb", b"a\\x0ab", b"a\\x5cnb", b"a\x85b", b"a\xc2\x85b", b"a\\x85b", b"a\\u0085b", b"a\x1b4d", "a\u1b4d".encode())
+    names = (
+        b"a\nb",
+        b"a\\nb",
+        b"a\\x0ab",
+        b"a\\x5cnb",
+        b"a\x85b",
+        b"a\xc2\x85b",
+        b"a\\x85b",
+        b"a\\u0085b",
+        b"a\x1b4d",
+        "a\u1b4d".encode(),
+    )
     for name in names:
         Path(os.fsdecode(bytes(site) + b"/" + name + b".cert")).write_text("")
         Path(os.fsdecode(bytes(site) + b"/" + name + b".ppm")).write_text(DIAGONAL)
@@ -433,7 +565,11 @@ def test_folders_in_folders_without_an_end(site, checked, tmp_path):
         for name in ("diagonal.ppm", "diagonal.cert"):
             Path(name).write_bytes((EXAMPLES / name).read_bytes())
         os.chdir(tmp_path)
-        told = (0, []) if depth == 100 else (3, [f"site/{'d/' * 101}: more than 100 folders within each other"])
+        told = (
+            (0, [])
+            if depth == 100
+            else (3, [f"site/{'d/' * 101}: more than 100 folders within each other"])
+        )
         assert checked("site") == checked("site/", "--untrusted") == told
         subprocess.run(["rm", "-rf", "site/d"], check=True)
 
@@ -444,9 +580,17 @@ def test_a_folder_is_gone_through_once_whatever_names_alternate(site, checked, m
         for folder in range(5):
             pair(site, f"{one}d{folder}/x", CROSS)
     searched, search = [], finding._scanned
-    monkeypatch.setattr(finding, "_scanned", lambda place, ends: searched.append((place, ends)) or search(place, ends))
+    monkeypatch.setattr(
+        finding,
+        "_scanned",
+        lambda place, ends: searched.append((place, ends)) or search(place, ends),
+    )
     assert len(checked("site")[1]) == 18
-    assert len([place for place, ends in searched if not ends]) == len({place for place, ends in searched if not ends}) == 16
+    assert (
+        len([place for place, ends in searched if not ends])
+        == len({place for place, ends in searched if not ends})
+        == 16
+    )
     assert len(searched) == 16 + 2 * 16  # noted before and compared behind
 
 
@@ -457,19 +601,35 @@ def test_shares(site, checked):
     printed = [checked("site", "--shard", f"{part}/3")[1] for part in (1, 2, 3)]
     # The part of a name is its sha256 as a number, modulo 3.
     assert [len(lines) for lines in printed] == [2, 4, 5]
-    assert sorted(sum(printed, [])) == [f"site/{name}.cert: certificate Ended at line 2" for name in names]
+    assert sorted(sum(printed, [])) == [
+        f"site/{name}.cert: certificate Ended at line 2" for name in names
+    ]
     assert checked("site", "--shard", "12/12") == (0, [])
     # Names alone tell: what comes and goes between two shares moves no other certificate, nor does an older ending.
     (site / "00.cert").unlink()
     pair(site, "000", certificate="nonocert 1\n")
     (site / "10.cert").rename(site / "10.proof")
-    assert checked("site", "--shard", "2/3")[1] == [line.replace("10.cert", "10.proof") for line in printed[1]]
+    assert checked("site", "--shard", "2/3")[1] == [
+        line.replace("10.cert", "10.proof") for line in printed[1]
+    ]
     assert set(printed[2]) <= {*checked("site", "--shard", "3/3")[1]}
 
 
 @pytest.mark.parametrize("option", ("--givens", "--certificates", None))
-@pytest.mark.parametrize("change", ("mv own/b gone", "rm own/b/2.*", "rm -r own", "rm -r own; mkdir own", "mv own gone; ln -s gone own", "echo x > own/b/2.givens; echo x > own/b/2.cert"))
-def test_an_operators_folder_that_changes_meanwhile_is_told(site, checked, tmp_path, monkeypatch, option, change):
+@pytest.mark.parametrize(
+    "change",
+    (
+        "mv own/b gone",
+        "rm own/b/2.*",
+        "rm -r own",
+        "rm -r own; mkdir own",
+        "mv own gone; ln -s gone own",
+        "echo x > own/b/2.givens; echo x > own/b/2.cert",
+    ),
+)
+def test_an_operators_folder_that_changes_meanwhile_is_told(
+    site, checked, tmp_path, monkeypatch, option, change
+):
     for name in ("a/1", "b/2"):
         pair(site, name, CROSS, ONE, givens="given 1 1\n")
         pair(tmp_path / "own", name, None, ONE, givens="given 1 1\n")
@@ -488,35 +648,71 @@ def test_an_operators_folder_that_changes_meanwhile_is_told(site, checked, tmp_p
         assert (status, lines) == (0, [])
     else:
         assert status == 3
-        assert any(line in lines for line in (*(f"{tmp_path}/own/{name}: {finding.CHANGED}" for name in ("", "a/", "b/")), f"own: {finding.CHANGED}"))
+        assert any(
+            line in lines
+            for line in (
+                *(f"{tmp_path}/own/{name}: {finding.CHANGED}" for name in ("", "a/", "b/")),
+                f"own: {finding.CHANGED}",
+            )
+        )
 
 
-@pytest.mark.parametrize("change", ("rm site/1.ppm", "cp site/1.ppm site/2.ppm", "echo >> site/1.ppm", "touch site/1.givens", "mkdir site/new.cert", "mkdir site/new"))
+@pytest.mark.parametrize(
+    "change",
+    (
+        "rm site/1.ppm",
+        "cp site/1.ppm site/2.ppm",
+        "echo >> site/1.ppm",
+        "touch site/1.givens",
+        "mkdir site/new.cert",
+        "mkdir site/new",
+    ),
+)
 def test_a_site_that_changes_meanwhile_is_told(site, checked, monkeypatch, change):
     pair(site, "1", DIAGONAL, ALL)
     real = finding.found_in
-    monkeypatch.setattr(finding, "found_in", lambda *words: [real(*words), subprocess.run(change, shell=True, check=True, cwd=site.parent)][0])
+    monkeypatch.setattr(
+        finding,
+        "found_in",
+        lambda *words: [
+            real(*words),
+            subprocess.run(change, shell=True, check=True, cwd=site.parent),
+        ][0],
+    )
     assert checked("site", "--untrusted")[1][-1] == f"site/: {finding.CHANGED}"
 
 
-def test_a_folder_of_certificates_that_comes_meanwhile_is_told(site, checked, tmp_path, monkeypatch):
+def test_a_folder_of_certificates_that_comes_meanwhile_is_told(
+    site, checked, tmp_path, monkeypatch
+):
     """What is put into a folder that was there before counts by its ending, as before."""
     pair(site, "in/1", certificate=None)
     pair(tmp_path / "own", "in/1", None)
     real, status = finding.found_in, []
     for change in ("touch own/in/notes", "touch site/in/notes", "mkdir own/in/new"):
-        monkeypatch.setattr(finding, "found_in", lambda *words: [real(*words), subprocess.run(change, shell=True, check=True)][0])
+        monkeypatch.setattr(
+            finding,
+            "found_in",
+            lambda *words: [real(*words), subprocess.run(change, shell=True, check=True)][0],
+        )
         status.append(checked("site", "--certificates", "own"))
     assert status == [(0, []), (0, []), (3, [f"{tmp_path}/own/in/: {finding.CHANGED}"])]
 
 
-@pytest.mark.parametrize("names", (("a", "a.ppm", "a.ppm.ppm"), ("a", "a.ppm"), (".cert", ".cert.ppm")))
+@pytest.mark.parametrize(
+    "names", (("a", "a.ppm", "a.ppm.ppm"), ("a", "a.ppm"), (".cert", ".cert.ppm"))
+)
 @pytest.mark.parametrize("apart", (False, True))
 def test_a_certificate_is_of_the_picture_with_its_name(site, checked, tmp_path, names, apart):
     # The last two pictures (of a chain of names) have one certificate, which is right for one of them alone.
     (tmp_path / "own").mkdir()
     for name in names:
-        pair(tmp_path / "own" if apart else site, f"{name}.ppm" if apart else name, None, DIAGONAL_CERT)
+        pair(
+            tmp_path / "own" if apart else site,
+            f"{name}.ppm" if apart else name,
+            None,
+            DIAGONAL_CERT,
+        )
         pair(site, name, DIAGONAL, None)
     words = ["site", "--untrusted", *(["--certificates", "own"] if apart else [])]
     assert checked(*words) == (0, [])
@@ -531,7 +727,10 @@ def test_a_name_with_nothing_before_its_ending_is_told(site, checked, name):
     pair(site, "one")
     pair(site, name, background="1,1,1")
     status, lines = checked("site")
-    assert (status, sorted(lines)) == (3, [f"site/{name}.{ending}: nothing is before its ending" for ending in ("cert", "ppm")])
+    assert (status, sorted(lines)) == (
+        3,
+        [f"site/{name}.{ending}: nothing is before its ending" for ending in ("cert", "ppm")],
+    )
     (site / f"{name}.cert").unlink()
     assert checked("site", "--quiet") == (3, [f"site/{name}.ppm: nothing is before its ending"])
 
@@ -549,10 +748,16 @@ def test_a_picture_that_no_certificate_is_of_is_told(site, capsys, tmp_path, apa
     for name in ("a.ppm.ppm", "in\nc/c", "in/C"):
         pair(site, name, certificate=None)
     (site / "in/d.PPM").symlink_to("nowhere")
-    told = [f"site/{name}: no certificate\n" for name in ("a.ppm.ppm.ppm", "in/C.ppm", "in/d.PPM", "in\\nc/c.ppm")]
+    told = [
+        f"site/{name}: no certificate\n"
+        for name in ("a.ppm.ppm.ppm", "in/C.ppm", "in/d.PPM", "in\\nc/c.ppm")
+    ]
     assert check_site.main(words) == 0
     noted = "".join(f"nonobench-check-site: {line}" for line in told)
-    assert capsys.readouterr() == ("", f"{noted}accepted 4, refused 0, not read 0, no certificate 4\n")
+    assert capsys.readouterr() == (
+        "",
+        f"{noted}accepted 4, refused 0, not read 0, no certificate 4\n",
+    )
     assert check_site.main([*words, "--every-picture"]) == 1
     assert capsys.readouterr() == ("".join(told), "accepted 4, refused 4, not read 0\n")
     for part in (1, 2, 3):
@@ -566,7 +771,10 @@ def test_certificates_in_a_folder_of_their_own(site, checked, tmp_path):
     pair(own, "in/diagonal", None)
     pair(own, "in/other", None, ALL)
     (site / "in/other.ppm").write_text(CROSS)
-    assert checked("site", "--certificates", "own") == (1, ["own/in/other.cert: certificate UnpublishedGiven at line 2"])
+    assert checked("site", "--certificates", "own") == (
+        1,
+        ["own/in/other.cert: certificate UnpublishedGiven at line 2"],
+    )
 
 
 class Slow(nonobench.Worker):
@@ -583,7 +791,10 @@ def test_a_check_that_takes_too_long_is_ended(site, checked, monkeypatch):
     pair(site, "one")
     pair(site, "two", ending="proof", certificate=LEMMAS)
     monkeypatch.setattr(check_site, "Worker", Slow)
-    assert checked("site", "--seconds", "0.5", "--jobs", "1") == (1, ["site/one.cert: no answer within 0.5 seconds"])
+    assert checked("site", "--seconds", "0.5", "--jobs", "1") == (
+        1,
+        ["site/one.cert: no answer within 0.5 seconds"],
+    )
 
 
 # A chequerboard of 60 by 60 cells in four colours, whose verdict takes longer than anybody waits.
@@ -595,21 +806,34 @@ class Busy(nonobench.Worker):
     """A worker whose assessment is a search without an end, but of one certificate."""
 
     def assess(self, picture, certificate, *words):
-        return super().assess(picture, certificate, *words) if certificate == LEMMAS.encode() else self.verdict(ENDLESS)
+        return (
+            super().assess(picture, certificate, *words)
+            if certificate == LEMMAS.encode()
+            else self.verdict(ENDLESS)
+        )
 
 
 def test_a_check_has_so_much_processor_time(site, checked, monkeypatch):
     pair(site, "one")
     pair(site, "two", ending="proof", certificate=LEMMAS)
     monkeypatch.setattr(check_site, "Worker", Busy)
-    assert checked("site", "--seconds", PATIENCE, "--processor", "1") == (1, ["site/one.cert: no answer within its processor time"])
+    assert checked("site", "--seconds", PATIENCE, "--processor", "1") == (
+        1,
+        ["site/one.cert: no answer within its processor time"],
+    )
 
 
-@pytest.mark.parametrize("way", ("as it is", *(pytest.param(way, marks=pytest.mark.all) for way in ("ignored", "blocked"))))
+@pytest.mark.parametrize(
+    "way",
+    ("as it is", *(pytest.param(way, marks=pytest.mark.all) for way in ("ignored", "blocked"))),
+)
 def test_a_worker_ends_a_call_by_its_processor_time(way):
     """Whatever the program that starts it does with the signals that end it."""
     ends = {signal.SIGALRM, signal.SIGXCPU}
-    before = {number: signal.signal(number, signal.SIG_IGN if way == "ignored" else signal.SIG_DFL) for number in ends}
+    before = {
+        number: signal.signal(number, signal.SIG_IGN if way == "ignored" else signal.SIG_DFL)
+        for number in ends
+    }
     mask = signal.pthread_sigmask(signal.SIG_BLOCK, ends if way == "blocked" else ())
     try:
         with nonobench.Worker(seconds=PATIENCE, processor=1) as worker:
@@ -619,8 +843,15 @@ def test_a_worker_ends_a_call_by_its_processor_time(way):
                     worker.verdict(ENDLESS)
             assert os.times().children_user - began < 6
             assert worker.check(DIAGONAL.encode(), DIAGONAL_CERT.encode()).givens == ()
-            held = re.findall("^Sig(?:Blk|Ign):\t(.*)$", Path(f"/proc/{worker._process.pid}/status").read_text(), re.MULTILINE)
-            assert [int(word, 16) & sum(1 << number - 1 for number in ends) for word in held] == [0, 0]
+            held = re.findall(
+                "^Sig(?:Blk|Ign):\t(.*)$",
+                Path(f"/proc/{worker._process.pid}/status").read_text(),
+                re.MULTILINE,
+            )
+            assert [int(word, 16) & sum(1 << number - 1 for number in ends) for word in held] == [
+                0,
+                0,
+            ]
     finally:
         signal.pthread_sigmask(signal.SIG_SETMASK, mask)
         for number, handler in before.items():
@@ -630,7 +861,10 @@ def test_a_worker_ends_a_call_by_its_processor_time(way):
 @pytest.mark.parametrize("main", (check_site.main, collection.main))
 def test_programs_learn_how_their_processes_end(site, main):
     """Also where who starts them ignores that."""
-    before = {number: signal.signal(number, signal.SIG_IGN) for number in (signal.SIGCHLD, signal.SIGINT, signal.SIGTERM)}
+    before = {
+        number: signal.signal(number, signal.SIG_IGN)
+        for number in (signal.SIGCHLD, signal.SIGINT, signal.SIGTERM)
+    }
     try:
         assert main(["site"]) == 3
         assert signal.getsignal(signal.SIGCHLD) == signal.SIG_DFL
@@ -652,7 +886,10 @@ def test_other_failures_have_status_3(site, checked, monkeypatch, capsys):
         raise RuntimeError("the worker's program failed; it says why on standard error")
 
     monkeypatch.setattr(nonobench.Worker, "assess", fails)
-    assert checked("site") == (3, ["site/one.cert: the worker's program failed; it says why on standard error"])
+    assert checked("site") == (
+        3,
+        ["site/one.cert: the worker's program failed; it says why on standard error"],
+    )
     monkeypatch.setattr(check_site, "line_of", fails)
     assert check_site.main(["site"]) == 3
     monkeypatch.setattr(nonobench.Worker, "assess", lambda *words: 1 / 0)
@@ -673,25 +910,46 @@ def test_outputs_that_cannot_be_written_or_have_few_signs(site):
     with open("/dev/full", "w") as full:
         run = started(stdout=full)
     assert (run.returncode, run.stderr) == (3, "nonobench-check-site: No space left on device\n")
-    for coding, name in (("ascii", "\\N{DUCK}\\N{LATIN SMALL LETTER E WITH ACUTE}"), ("latin-1", "\\N{DUCK}\xe9"), ("utf-8", "\N{DUCK}\xe9")):
+    for coding, name in (
+        ("ascii", "\\N{DUCK}\\N{LATIN SMALL LETTER E WITH ACUTE}"),
+        ("latin-1", "\\N{DUCK}\xe9"),
+        ("utf-8", "\N{DUCK}\xe9"),
+    ):
         run = started(stdout=subprocess.PIPE, encoding=coding)
-        assert (run.returncode, run.stdout) == (1, f"site/{name}.cert: certificate Ended at line 2\n")
+        assert (run.returncode, run.stdout) == (
+            1,
+            f"site/{name}.cert: certificate Ended at line 2\n",
+        )
 
 
-@pytest.mark.parametrize("closed, printed, said, status", [
-    (">&-", "", "nonobench-check-site: standard output is closed\n", 3), (">&- 2>&-", "", "", 3), ("2>&-", "site/one.cert: certificate Ended at line 2\n", "", 1),
-])
+@pytest.mark.parametrize(
+    "closed, printed, said, status",
+    [
+        (">&-", "", "nonobench-check-site: standard output is closed\n", 3),
+        (">&- 2>&-", "", "", 3),
+        ("2>&-", "site/one.cert: certificate Ended at line 2\n", "", 1),
+    ],
+)
 def test_streams_that_are_closed(site, closed, printed, said, status):
     pair(site, "one", certificate="nonocert 1\n")
     words = [sys.executable, "-m", "nonobench.check_site", "site"]
-    run = subprocess.run(["sh", "-c", f'exec "$@" {closed}', "sh", *words], cwd=site.parent, capture_output=True, text=True, timeout=PATIENCE)
+    run = subprocess.run(
+        ["sh", "-c", f'exec "$@" {closed}', "sh", *words],
+        cwd=site.parent,
+        capture_output=True,
+        text=True,
+        timeout=PATIENCE,
+    )
     assert (run.stdout, run.stderr, run.returncode) == (printed, said, status)
 
 
 def test_many_at_a_time_say_what_one_says(site, checked):
     for number in range(300):
         pair(site, f"{number:03}", certificate=DIAGONAL_CERT if number % 3 else "nonocert 1\n")
-    wanted = (1, [f"site/{number:03}.cert: certificate Ended at line 2" for number in range(0, 300, 3)])
+    wanted = (
+        1,
+        [f"site/{number:03}.cert: certificate Ended at line 2" for number in range(0, 300, 3)],
+    )
     assert checked("site", "--jobs", "1") == wanted
     assert checked("site", "--jobs", "8") == wanted
 
@@ -708,26 +966,65 @@ sys.exit(main())
 """
 
 
-@pytest.mark.parametrize("name, package", [("nonobench-audit", "nonobench.collection"), ("nonobench-check-site", "nonobench.check_site")])
+@pytest.mark.parametrize(
+    "name, package",
+    [("nonobench-audit", "nonobench.collection"), ("nonobench-check-site", "nonobench.check_site")],
+)
 def test_ctrl_c_while_a_program_is_loaded(site, tmp_path, name, package):
     program, own = tmp_path / name, {"nonobench-audit": "nonobench.collection.running"}
-    for module in ("nonobench._answers", "nonobench.worker", "nonobench.collection.finding", "nonobench.collection.outputs", own.get(name, package)):
+    for module in (
+        "nonobench._answers",
+        "nonobench.worker",
+        "nonobench.collection.finding",
+        "nonobench.collection.outputs",
+        own.get(name, package),
+    ):
         program.write_text(INTERRUPTED.format(module=module, package=package))
-        run = subprocess.run([sys.executable, program, "site"], cwd=site.parent, capture_output=True, text=True, timeout=PATIENCE)
+        run = subprocess.run(
+            [sys.executable, program, "site"],
+            cwd=site.parent,
+            capture_output=True,
+            text=True,
+            timeout=PATIENCE,
+        )
         assert (run.stderr, run.returncode) == ("", -signal.SIGINT), module
     other = tmp_path / "program-of-a-user"
     other.write_text(INTERRUPTED.format(module="nonobench._answers", package=package))
-    assert "KeyboardInterrupt" in subprocess.run([sys.executable, other, "site"], capture_output=True, text=True, timeout=PATIENCE).stderr
+    assert (
+        "KeyboardInterrupt"
+        in subprocess.run(
+            [sys.executable, other, "site"], capture_output=True, text=True, timeout=PATIENCE
+        ).stderr
+    )
 
 
-@pytest.mark.parametrize("name, package", [("nonobench-audit", "nonobench.collection"), ("nonobench-check-site", "nonobench.check_site")])
+@pytest.mark.parametrize(
+    "name, package",
+    [("nonobench-audit", "nonobench.collection"), ("nonobench-check-site", "nonobench.check_site")],
+)
 def test_a_program_that_cannot_be_loaded_ends_with_3(site, tmp_path, name, package):
     program = tmp_path / name
-    program.write_text(INTERRUPTED.replace("os.kill(os.getpid(), signal.SIGINT)", "raise MemoryError").format(module="nonobench._answers", package=package))
-    run = subprocess.run([sys.executable, program, "site"], cwd=site.parent, capture_output=True, text=True, timeout=PATIENCE)
+    program.write_text(
+        INTERRUPTED.replace("os.kill(os.getpid(), signal.SIGINT)", "raise MemoryError").format(
+            module="nonobench._answers", package=package
+        )
+    )
+    run = subprocess.run(
+        [sys.executable, program, "site"],
+        cwd=site.parent,
+        capture_output=True,
+        text=True,
+        timeout=PATIENCE,
+    )
     assert (run.stderr.splitlines()[-1], run.returncode) == ("MemoryError", 3)
     program.write_bytes((Path(__file__).parents[2] / "packages" / "linux" / "command").read_bytes())
-    run = subprocess.run([sys.executable, "-I", program, "site"], cwd=site.parent, capture_output=True, text=True, timeout=PATIENCE)
+    run = subprocess.run(
+        [sys.executable, "-I", program, "site"],
+        cwd=site.parent,
+        capture_output=True,
+        text=True,
+        timeout=PATIENCE,
+    )
     assert (run.stderr, run.returncode) == (f"{name}: No module named 'nonobench'\n", 3)
 
 
@@ -736,5 +1033,11 @@ def test_ctrl_c_while_a_site_is_checked_has_its_status(site, tmp_path):
     program = tmp_path / "nonobench-check-site"
     begun = "from nonobench import check_site\ncheck_site._run = lambda told: os.kill(os.getpid(), signal.SIGINT)\n"
     program.write_text(f"import os, signal, sys\n{begun}sys.exit(check_site.main())\n")
-    run = subprocess.run([sys.executable, program, "site"], cwd=site.parent, capture_output=True, text=True, timeout=PATIENCE)
+    run = subprocess.run(
+        [sys.executable, program, "site"],
+        cwd=site.parent,
+        capture_output=True,
+        text=True,
+        timeout=PATIENCE,
+    )
     assert (run.stderr, run.returncode) == ("", check_site.INTERRUPTED)

@@ -16,7 +16,18 @@ import unittest
 from pathlib import Path
 
 import nonobench
-from nonobench import ANY_GIVEN, Block, CertificateFault, Given, GivensFault, LengthFault, PictureFault, Ruling, UnpublishedGiven, _answers
+from nonobench import (
+    ANY_GIVEN,
+    Block,
+    CertificateFault,
+    Given,
+    GivensFault,
+    LengthFault,
+    PictureFault,
+    Ruling,
+    UnpublishedGiven,
+    _answers,
+)
 
 ROOT = Path(__file__).resolve().parent.parent.parent
 # Two rows, black and white, white and black: another picture has the clues, and a given decides it.
@@ -42,7 +53,9 @@ def bytes_of(text):
 
 def cases(name):
     """What is asked, and what has to come."""
-    for line in (ROOT / "tests" / "cases" / f"{name}.case").read_text(encoding="utf-8").splitlines():
+    for line in (
+        (ROOT / "tests" / "cases" / f"{name}.case").read_text(encoding="utf-8").splitlines()
+    ):
         if line and not line.startswith("#"):
             asked, _, answer = line.rpartition(" => ")
             yield asked, answer
@@ -56,7 +69,9 @@ def places_of(word):
 def picture_of(rows):
     """The picture of a shorthand: its rows, with / between them."""
     lines = rows.split("/")
-    return nonobench.picture_of(len(lines[0]), len(lines), [TRIPLES[cell] for line in lines for cell in line])
+    return nonobench.picture_of(
+        len(lines[0]), len(lines), [TRIPLES[cell] for line in lines for cell in line]
+    )
 
 
 def told(call):
@@ -82,7 +97,9 @@ class Cases(unittest.TestCase):
 
     def compare(self, asked, answer, call):
         wrote = answer.replace(" | ", "\n") + "\n"
-        wanted = ("", f"nonobench: {answer[2:]}\n", 1) if answer.startswith("! ") else (wrote, "", 0)
+        wanted = (
+            ("", f"nonobench: {answer[2:]}\n", 1) if answer.startswith("! ") else (wrote, "", 0)
+        )
         with self.subTest(asked):
             self.assertEqual(told(call), wanted)
 
@@ -95,19 +112,29 @@ class Cases(unittest.TestCase):
             count = 0
             for asked, answer in cases(name):
                 rows, _, text = asked.partition(" ")
-                self.compare(asked, answer, lambda pair=(picture_of(rows), bytes_of(text)): nonobench.check(*pair, published=ANY_GIVEN))
+                self.compare(
+                    asked,
+                    answer,
+                    lambda pair=(picture_of(rows), bytes_of(text)): nonobench.check(
+                        *pair, published=ANY_GIVEN
+                    ),
+                )
                 count += 1
             self.assertGreater(count, 40)
 
     def test_published(self):
         count = 0
         for asked, answer in cases("published"):
-            (rows, published, text), (givens, _, answer) = asked.split(" ", 2), answer.partition(" ")
+            (rows, published, text), (givens, _, answer) = asked.split(" ", 2), answer.partition(
+                " "
+            )
             pair = picture_of(rows), bytes_of(text)
             places = ANY_GIVEN if published == "any" else places_of(published)
             self.compare(asked, answer, lambda: nonobench.check(*pair, published=places))
             with self.subTest(asked):
-                self.assertEqual(givens_of(lambda: nonobench.check(*pair, published=places)), places_of(givens))
+                self.assertEqual(
+                    givens_of(lambda: nonobench.check(*pair, published=places)), places_of(givens)
+                )
             count += 1
         self.assertGreater(count, 20)
 
@@ -128,20 +155,35 @@ class Answers(unittest.TestCase):
             def __len__(self):
                 return 1 << 20
 
-        self.assertEqual(nonobench.check(Longer(DIAGONAL), Longer(GIVEN), published=[(1, 1)]), result)
-        said = nonobench.check(bytearray(DIAGONAL), memoryview(GIVEN), published=iter([(2, 2), [1, 1]]))
+        self.assertEqual(
+            nonobench.check(Longer(DIAGONAL), Longer(GIVEN), published=[(1, 1)]), result
+        )
+        said = nonobench.check(
+            bytearray(DIAGONAL), memoryview(GIVEN), published=iter([(2, 2), [1, 1]])
+        )
         self.assertEqual(str(said), "certificate accepted, givens 1\n")
         with self.assertRaises(UnpublishedGiven) as caught:
             nonobench.check(DIAGONAL, GIVEN)
         self.assertEqual((caught.exception.name, caught.exception.line), ("UnpublishedGiven", 2))
-        self.assertEqual(nonobench.check(DIAGONAL, GIVEN, published=b"given 2 2\ngiven 1 1").givens, ((1, 1),))
-        for published, name, line in (([(1, 1), (3, 1)], "Place", 2), ([(1, 1)] * 2, "Repeated", 2), ([(-1, 1)], "BadLine", 1),
-                                      (b"given 1 1\n\n", "BadLine", 2), (b"given 1 1\r\n", "BadLine", 1)):
-            with self.subTest(published), self.assertRaisesRegex(GivensFault, f"^givens {name} at line {line}$") as refused:
+        self.assertEqual(
+            nonobench.check(DIAGONAL, GIVEN, published=b"given 2 2\ngiven 1 1").givens, ((1, 1),)
+        )
+        for published, name, line in (
+            ([(1, 1), (3, 1)], "Place", 2),
+            ([(1, 1)] * 2, "Repeated", 2),
+            ([(-1, 1)], "BadLine", 1),
+            (b"given 1 1\n\n", "BadLine", 2),
+            (b"given 1 1\r\n", "BadLine", 1),
+        ):
+            with self.subTest(published), self.assertRaisesRegex(
+                GivensFault, f"^givens {name} at line {line}$"
+            ) as refused:
                 nonobench.check(DIAGONAL, GIVEN, published=published)
             self.assertEqual((refused.exception.name, refused.exception.line), (name, line))
         again = pickle.loads(pickle.dumps(caught.exception))
-        self.assertEqual((again.givens, str(again)), (((1, 1),), "certificate UnpublishedGiven at line 2"))
+        self.assertEqual(
+            (again.givens, str(again)), (((1, 1),), "certificate UnpublishedGiven at line 2")
+        )
         with self.assertRaises(CertificateFault) as caught:
             nonobench.check(DIAGONAL, b"nonocert 1\nline r 3\n")
         self.assertEqual((caught.exception.name, caught.exception.line), ("Place", 2))
@@ -168,10 +210,15 @@ class Answers(unittest.TestCase):
             certificate = nonobench.certify(picture)
             self.assertEqual(nonobench.check(picture, certificate).givens, ())
             audit = nonobench.audit(picture, allowance=5)
-            self.assertEqual((audit.verdict, audit.certificate), (nonobench.Verdict(Ruling.UNIQUE), certificate))
+            self.assertEqual(
+                (audit.verdict, audit.certificate), (nonobench.Verdict(Ruling.UNIQUE), certificate)
+            )
         self.assertIsNone(nonobench.certify(DIAGONAL))
         audit = nonobench.audit(DIAGONAL)
-        self.assertEqual((audit.verdict.ruling, audit.verdict.other, audit.certificate), (Ruling.AMBIGUOUS, (".a", "a."), None))
+        self.assertEqual(
+            (audit.verdict.ruling, audit.verdict.other, audit.certificate),
+            (Ruling.AMBIGUOUS, (".a", "a."), None),
+        )
         # By its background this picture has no cell that is filled in.
         self.assertEqual(nonobench.audit(tile, background=(0, 0, 0)).verdict.ruling, Ruling.UNIQUE)
         for call in (nonobench.certify, nonobench.audit):
@@ -184,8 +231,12 @@ class Answers(unittest.TestCase):
         tile, pair = b"P3 1 1 1 0 0 0", picture_of("a./.b")
         for picture in (tile, pair):
             proved = nonobench.prove(picture)
-            self.assertEqual((proved.ruling, proved.certificate[:12]), (Ruling.UNIQUE, b"nonolemma 2\n"))
-            self.assertEqual(str(nonobench.check(picture, proved.certificate)), "certificate accepted\n")
+            self.assertEqual(
+                (proved.ruling, proved.certificate[:12]), (Ruling.UNIQUE, b"nonolemma 2\n")
+            )
+            self.assertEqual(
+                str(nonobench.check(picture, proved.certificate)), "certificate accepted\n"
+            )
             # The old names.
             self.assertEqual(nonobench.verify(picture, proved.proof), nonobench.Result(()))
         self.assertEqual(nonobench.prove(DIAGONAL), nonobench.Proved(Ruling.AMBIGUOUS))
@@ -211,7 +262,9 @@ class Answers(unittest.TestCase):
         whole, head = picture_of("/".join(["a." * 60] * 120)), b"nonolemma 1\n"
         cells = tuple((row, column) for row in range(1, 121) for column in range(1, 121))
         lines = b"".join(b"given %d %d\n" % cell for cell in cells)
-        self.assertTrue(nonobench.assess(whole, head + lines + b"done\n", published=ANY_GIVEN).named == cells)
+        self.assertTrue(
+            nonobench.assess(whole, head + lines + b"done\n", published=ANY_GIVEN).named == cells
+        )
         for more in (b"given 1 1\n", b"given 121 1\n"):
             wrong = head + lines + more * 9 + b"done\n"
             with self.assertRaises(CertificateFault) as caught:
@@ -224,15 +277,22 @@ class Answers(unittest.TestCase):
         """Of a .non text, whichever givens a certificate names: the puzzle itself is not at fault."""
         clues = b'width 2\nheight 1\nrows\n1\ncolumns\n1\n0\ngoal "10"\n'
         self.assertTrue(nonobench.assess(clues, non=True).is_fit)
-        for lines, why in ((b"given 9 9\n", "Place at line 1"), (b"given 1 1\n" * 2, "Repeated at line 2")):
+        for lines, why in (
+            (b"given 9 9\n", "Place at line 1"),
+            (b"given 1 1\n" * 2, "Repeated at line 2"),
+        ):
             with self.assertRaisesRegex(GivensFault, f"^givens {why}$"):
-                nonobench.assess(clues, b"nonocert 2\n" + lines + b"done\n", published=ANY_GIVEN, non=True)
+                nonobench.assess(
+                    clues, b"nonocert 2\n" + lines + b"done\n", published=ANY_GIVEN, non=True
+                )
 
     def test_certificates_with_a_byte_changed(self):
         source, picture, count = random.Random(1), picture_of("a./.b"), 0
         right = nonobench.prove(picture).certificate
         for at in range(len(right)):
-            text = right[:at] + source.choice([b"", b" ", b"0", b"7", b"x", b"\n\n"]) + right[at + 1:]
+            text = (
+                right[:at] + source.choice([b"", b" ", b"0", b"7", b"x", b"\n\n"]) + right[at + 1 :]
+            )
             try:
                 self.assertEqual(nonobench.check(picture, text).givens, ())
             except CertificateFault:
@@ -257,14 +317,42 @@ class Answers(unittest.TestCase):
         for file in (None, "P3", 5, ["P3"]):
             with self.assertRaises(TypeError):
                 nonobench.clues(file)
-        for background in ((-1, 0, 0), (0, 0, 65536), (1, 2), (1, 2, 3, 4), "0,0,0", (0.0, 0, 0), ("0", "0", "0"), 5, (10**5000, 0, 0), b"fff"):
-            with self.assertRaisesRegex(ValueError, "^background must be a triple of numbers from 0 to 65535$"):
+        for background in (
+            (-1, 0, 0),
+            (0, 0, 65536),
+            (1, 2),
+            (1, 2, 3, 4),
+            "0,0,0",
+            (0.0, 0, 0),
+            ("0", "0", "0"),
+            5,
+            (10**5000, 0, 0),
+            b"fff",
+        ):
+            with self.assertRaisesRegex(
+                ValueError, "^background must be a triple of numbers from 0 to 65535$"
+            ):
                 nonobench.check(DIAGONAL, GIVEN, background, ANY_GIVEN)
-        for published in ("11", "1,1", [1, 1], [(1,)], [(1, 1, 1)], 5, [(1, "1")], [(1.0, 1)], [(1, 10**5000)]):
-            with self.assertRaisesRegex(TypeError, "^published must be pairs of row and column, a file's bytes, or ANY_GIVEN$"):
+        for published in (
+            "11",
+            "1,1",
+            [1, 1],
+            [(1,)],
+            [(1, 1, 1)],
+            5,
+            [(1, "1")],
+            [(1.0, 1)],
+            [(1, 10**5000)],
+        ):
+            with self.assertRaisesRegex(
+                TypeError,
+                "^published must be pairs of row and column, a file's bytes, or ANY_GIVEN$",
+            ):
                 nonobench.check(DIAGONAL, GIVEN, published=published)
         for allowance, name in (("5", "str"), (5.0, "float"), ([], "list")):
-            with self.assertRaisesRegex(TypeError, f"^allowance must be a whole number, not {name}$"):
+            with self.assertRaisesRegex(
+                TypeError, f"^allowance must be a whole number, not {name}$"
+            ):
                 nonobench.verdict(DIAGONAL, allowance)
         with self.assertRaisesRegex(TypeError, "^non must be True or False, not str$"):
             nonobench.assess(DIAGONAL, non="non")
@@ -275,13 +363,32 @@ class Answers(unittest.TestCase):
             nonobench.clues(b" " * 16777217)
         with self.assertRaisesRegex(PictureFault, "^ppm NotP3 at byte 0$"):
             nonobench.clues(b"")
-        for columns, rows, cell, maxval in ((2, 2, (0, 0, 0), 255), (1, 1, (0, 0, 256), 255), (1, 1, (0, -1, 0), 255), (1, 1, (4, 5, 70000), 65535), (1, 1, (1, 2), 255), (1, 1, (1, 2, 3, 4), 255)):
-            with self.subTest((columns, rows, cell)), self.assertRaisesRegex(ValueError, f"^{columns} by {rows} cells need "):
+        for columns, rows, cell, maxval in (
+            (2, 2, (0, 0, 0), 255),
+            (1, 1, (0, 0, 256), 255),
+            (1, 1, (0, -1, 0), 255),
+            (1, 1, (4, 5, 70000), 65535),
+            (1, 1, (1, 2), 255),
+            (1, 1, (1, 2, 3, 4), 255),
+        ):
+            with self.subTest((columns, rows, cell)), self.assertRaisesRegex(
+                ValueError, f"^{columns} by {rows} cells need "
+            ):
                 nonobench.picture_of(columns, rows, [cell], maxval)
         self.assertRaises(ValueError, nonobench.picture_of, 0, 5, [])
-        for name, words in (("columns", (121, 1)), ("columns", (-1, -1)), ("columns", (True, 1)), ("rows", (1, 1.0)), ("maxval", (1, 1, 0)), ("maxval", (1, 1, 65536)), ("maxval", (1, 1, 255.0))):
+        for name, words in (
+            ("columns", (121, 1)),
+            ("columns", (-1, -1)),
+            ("columns", (True, 1)),
+            ("rows", (1, 1.0)),
+            ("maxval", (1, 1, 0)),
+            ("maxval", (1, 1, 65536)),
+            ("maxval", (1, 1, 255.0)),
+        ):
             columns, rows, *maxval = words
-            with self.subTest(words), self.assertRaisesRegex((TypeError, ValueError), f"^{name} must be a whole number from 1 to "):
+            with self.subTest(words), self.assertRaisesRegex(
+                (TypeError, ValueError), f"^{name} must be a whole number from 1 to "
+            ):
                 nonobench.picture_of(columns, rows, [(0, 0, 0)] * int(columns * rows), *maxval)
         self.assertRaises(TypeError, nonobench.picture_of, 1, 1, [(0, 0, 0.5)])
 
@@ -304,14 +411,24 @@ class Answers(unittest.TestCase):
         text = nonobench.certify(picture).decode("ascii")
         utf_16 = "it is UTF-16, and must be ASCII"
         changed = [
-            (text.replace("\n", "\r\n").encode(), "its lines end with CR LF, and must end with LF alone"),
-            (text.encode("utf-8-sig"), "it begins with a byte order mark, and must begin with its first word"),
+            (
+                text.replace("\n", "\r\n").encode(),
+                "its lines end with CR LF, and must end with LF alone",
+            ),
+            (
+                text.encode("utf-8-sig"),
+                "it begins with a byte order mark, and must begin with its first word",
+            ),
             *((text.encode(coding), utf_16) for coding in ("utf-16-le", "utf-16-be")),
             *((("\ufeff" + text).encode(coding), utf_16) for coding in ("utf-16-le", "utf-16-be")),
-            (b"", ""), (b"nonocert 3\n", ""), (b"nonocert 3\nline r 1\r\n", ""),
+            (b"", ""),
+            (b"nonocert 3\n", ""),
+            (b"nonocert 3\nline r 1\r\n", ""),
         ]
         for file, hint in changed:
-            with self.subTest(file), self.assertRaisesRegex(CertificateFault, "NotCert at line 1") as told:
+            with self.subTest(file), self.assertRaisesRegex(
+                CertificateFault, "NotCert at line 1"
+            ) as told:
                 nonobench.check(picture, file)
             self.assertEqual(nonobench.hint_of(told.exception, file), hint)
         late = text.replace("\n", "\n\r\n", 1).encode()
@@ -325,17 +442,29 @@ class Answers(unittest.TestCase):
             noise = source.randbytes(source.randrange(200))
             near = bytearray(DIAGONAL)
             near[source.randrange(len(near))] = source.randrange(256)
-            for call in (lambda: nonobench.check(near, noise, published=ANY_GIVEN), lambda: nonobench.verdict(noise, 10),
-                         lambda: nonobench.clues(near), lambda: nonobench.check(near, noise, published=noise)):
+            for call in (
+                lambda: nonobench.check(near, noise, published=ANY_GIVEN),
+                lambda: nonobench.verdict(noise, 10),
+                lambda: nonobench.clues(near),
+                lambda: nonobench.check(near, noise, published=noise),
+            ):
                 try:
                     call()
                 except nonobench.Fault as fault:
-                    self.assertRegex(fault.text, r"^(ppm|givens|certificate) \w+ at (byte|line) \d+$")
+                    self.assertRegex(
+                        fault.text, r"^(ppm|givens|certificate) \w+ at (byte|line) \d+$"
+                    )
 
     def test_threads(self):
         answers = []
-        threads = [threading.Thread(target=lambda: answers.extend(str(nonobench.check(DIAGONAL, GIVEN, published=ANY_GIVEN)) for _ in range(500)))
-                   for _ in range(4)]
+        threads = [
+            threading.Thread(
+                target=lambda: answers.extend(
+                    str(nonobench.check(DIAGONAL, GIVEN, published=ANY_GIVEN)) for _ in range(500)
+                )
+            )
+            for _ in range(4)
+        ]
         for thread in threads:
             thread.start()
         for thread in threads:
@@ -347,7 +476,12 @@ class Answers(unittest.TestCase):
         self.assertEqual(nonobench.colour_shown((1, 3, 5), 510), (1, 2, 3))
         self.assertEqual(nonobench.colour_shown((0, 32767, 65535), 65535), (0, 127, 255))
         self.assertEqual(nonobench.colour_shown((0, 1, 1), 1), (0, 255, 255))
-        for colour, maxval, why in (((0, 0, 0), 0, "maxval must be"), ((0, 0, 0), 65536, "maxval must be"), ((1, 2, 3), 2, "colour must be"), ((1, 2), 2, "colour must be")):
+        for colour, maxval, why in (
+            ((0, 0, 0), 0, "maxval must be"),
+            ((0, 0, 0), 65536, "maxval must be"),
+            ((1, 2, 3), 2, "colour must be"),
+            ((1, 2), 2, "colour must be"),
+        ):
             self.assertRaisesRegex(ValueError, why, nonobench.colour_shown, colour, maxval)
 
     def test_version(self):
@@ -366,7 +500,13 @@ class Chance(unittest.TestCase):
         self.addCleanup(self.folder.cleanup)
 
     def run_program(self, words, lines=b""):
-        run = subprocess.run([os.environ["NONOBENCH"], *words], input=lines, capture_output=True, cwd=self.folder.name, check=False)
+        run = subprocess.run(
+            [os.environ["NONOBENCH"], *words],
+            input=lines,
+            capture_output=True,
+            cwd=self.folder.name,
+            check=False,
+        )
         return run.stdout.decode(), run.stderr.decode(), run.returncode
 
     def put(self, name, file):
@@ -380,7 +520,9 @@ class Chance(unittest.TestCase):
             background = source.choice([None, None, (0, 0, 0), (7, 80, 7)])
             words = [] if background is None else ["--background", ",".join(map(str, background))]
             self.put("picture", picture)
-            answer = self.run_program(["work", "picture", *words], b"allow 500\nverdict\nclues\nallow off\ncertify\n")
+            answer = self.run_program(
+                ["work", "picture", *words], b"allow 500\nverdict\nclues\nallow off\ncertify\n"
+            )
             with self.subTest(picture=picture, background=background):
                 if answer[2] != 0:
                     self.assertEqual(told(lambda: nonobench.clues(picture, background)), answer)
@@ -392,25 +534,46 @@ class Chance(unittest.TestCase):
                 ambiguous += verdict.ruling is Ruling.AMBIGUOUS
                 proved = nonobench.prove(picture, background)
                 answer = self.run_program(["prove", "picture", *words])
-                self.assertEqual((proved.certificate or proved.ruling.value.encode() + b"\n").decode(), answer[0])
-                certificate = marred(source.choice([certificate, proved.certificate or b""]), source, 3)
+                self.assertEqual(
+                    (proved.certificate or proved.ruling.value.encode() + b"\n").decode(), answer[0]
+                )
+                certificate = marred(
+                    source.choice([certificate, proved.certificate or b""]), source, 3
+                )
                 self.put("cert", certificate)
                 answer = self.run_program(["check", "picture", "cert", *words])
-                self.assertEqual(told(lambda: nonobench.check(picture, certificate, background, ANY_GIVEN)), answer)
+                self.assertEqual(
+                    told(lambda: nonobench.check(picture, certificate, background, ANY_GIVEN)),
+                    answer,
+                )
                 accepted += answer[2] == 0
-                givens = b"".join(b"given %d %d\n" % (source.randint(1, 5), source.randint(1, 5)) for _ in range(source.randint(0, 4)))
+                givens = b"".join(
+                    b"given %d %d\n" % (source.randint(1, 5), source.randint(1, 5))
+                    for _ in range(source.randint(0, 4))
+                )
                 self.put("givens", givens)
-                answer = self.run_program(["check", "--givens", "givens", "picture", "cert", *words])
-                self.assertEqual(told(lambda: nonobench.check(picture, certificate, background, givens)), answer)
+                answer = self.run_program(
+                    ["check", "--givens", "givens", "picture", "cert", *words]
+                )
+                self.assertEqual(
+                    told(lambda: nonobench.check(picture, certificate, background, givens)), answer
+                )
                 published += answer[2] == 0
-        self.assertGreater(min(accepted, refused, ambiguous, published), 20 if accepted + refused + ambiguous > 500 else 0)
+        self.assertGreater(
+            min(accepted, refused, ambiguous, published),
+            20 if accepted + refused + ambiguous > 500 else 0,
+        )
 
 
 def chance_picture(source):
     """A picture of some colours."""
     rows, columns, colours = source.randint(1, 9), source.randint(1, 9), source.randint(1, 4)
     triples = [(255, 255, 255)] + [(40 * at, at, 250 - at) for at in range(colours)]
-    return nonobench.picture_of(columns, rows, source.choices(triples, [source.randint(1, 4)] + [1] * colours, k=rows * columns))
+    return nonobench.picture_of(
+        columns,
+        rows,
+        source.choices(triples, [source.randint(1, 4)] + [1] * colours, k=rows * columns),
+    )
 
 
 def marred(text, source, one_of):
@@ -418,12 +581,15 @@ def marred(text, source, one_of):
     if not text or source.randrange(one_of):
         return text
     at = source.randrange(len(text))
-    return text[:at] + source.choice([b"", b" ", b"0", b"7", b"\n", b"x"]) + text[at + 1:]
+    return text[:at] + source.choice([b"", b" ", b"0", b"7", b"\n", b"x"]) + text[at + 1 :]
 
 
 def parts_of(out):
     """Verdict, clues and certificate (empty where there is none) of what a session printed."""
-    found = re.fullmatch(r"ok\n(unique|undecided \d+|ambiguous)\n((?:[.a-o]+\n)*)((?:[rc] .*\n)*)ok\n((?:.*\n)*)", out)
+    found = re.fullmatch(
+        r"ok\n(unique|undecided \d+|ambiguous)\n((?:[.a-o]+\n)*)((?:[rc] .*\n)*)ok\n((?:.*\n)*)",
+        out,
+    )
     ruling = Ruling(found[1].split(" ")[0])
     other = tuple(found[2].split()) if ruling is Ruling.AMBIGUOUS else None
     certificate = b"" if found[4] == "ambiguous\n" else found[4].encode()

@@ -23,7 +23,14 @@ sys.path.insert(0, str(Path(__file__).resolve().parent))
 from processes import children, is_running, seen  # noqa: E402
 
 import nonobench  # noqa: E402
-from nonobench import CertificateFault, Given, GivensFault, LengthFault, PictureFault, UnpublishedGiven  # noqa: E402
+from nonobench import (
+    CertificateFault,
+    Given,
+    GivensFault,
+    LengthFault,
+    PictureFault,
+    UnpublishedGiven,
+)  # noqa: E402
 
 PACKAGE = Path(nonobench.__file__).resolve().parent.parent
 # Two rows, black and white, white and black: another picture has the clues, and a given decides it.
@@ -32,7 +39,10 @@ GIVEN = b"nonocert 2\ngiven 1 1\nline r 1\nline c 1\nline r 2\ndone\n"
 LEMMAS = b"nonolemma 1\ngiven 1 1\nline r 1\nline c 1\nline r 2\ndone\n"
 TILE = b"P3 1 1 1 0 0 0"
 # White, and three colours in turn along each line: it has so many solutions that no certificate of all cells ends in time.
-ENDLESS = b"P3 60 60 3 " + b"".join(b"%d 0 0 " % at if at else b"3 3 3 " for at in ((row + column) % 4 for row in range(60) for column in range(60)))
+ENDLESS = b"P3 60 60 3 " + b"".join(
+    b"%d 0 0 " % at if at else b"3 3 3 "
+    for at in ((row + column) % 4 for row in range(60) for column in range(60))
+)
 
 
 # A chequerboard of 60 by 60 cells in four colours, whose verdict takes longer than anybody waits.
@@ -50,7 +60,11 @@ class Workers(unittest.TestCase):
         process = worker._process
 
         def interrupt(frame, event, _):
-            if frame.f_code is type(process.end).__call__.__code__ and event == "line" and not process.end.alive:
+            if (
+                frame.f_code is type(process.end).__call__.__code__
+                and event == "line"
+                and not process.end.alive
+            ):
                 raise KeyboardInterrupt
             return interrupt
 
@@ -65,7 +79,9 @@ class Workers(unittest.TestCase):
 
     def test_answers_and_faults(self):
         with nonobench.Worker(seconds=300) as worker:
-            self.assertEqual(worker.check(DIAGONAL, GIVEN, published=[(1, 1)]).givens, (Given(1, 1),))
+            self.assertEqual(
+                worker.check(DIAGONAL, GIVEN, published=[(1, 1)]).givens, (Given(1, 1),)
+            )
             with self.assertRaises(UnpublishedGiven) as caught:
                 worker.check(DIAGONAL, GIVEN)
             self.assertEqual(caught.exception.givens, (Given(1, 1),))
@@ -76,8 +92,12 @@ class Workers(unittest.TestCase):
             self.assertEqual(worker.audit(DIAGONAL), nonobench.audit(DIAGONAL))
             self.assertEqual(worker.prove(TILE), nonobench.prove(TILE))
             self.assertEqual(worker.prove(DIAGONAL), nonobench.prove(DIAGONAL))
-            self.assertEqual(str(worker.verify(TILE, worker.prove(TILE).certificate)), "certificate accepted\n")
-            self.assertEqual(worker.check(DIAGONAL, LEMMAS, published=b"given 1 1\n").givens, (Given(1, 1),))
+            self.assertEqual(
+                str(worker.verify(TILE, worker.prove(TILE).certificate)), "certificate accepted\n"
+            )
+            self.assertEqual(
+                worker.check(DIAGONAL, LEMMAS, published=b"given 1 1\n").givens, (Given(1, 1),)
+            )
             with self.assertRaisesRegex(GivensFault, "^givens Place at line 1$"):
                 worker.check(DIAGONAL, LEMMAS, published=[(1, 3)])
             with self.assertRaises(UnpublishedGiven) as caught:
@@ -117,20 +137,26 @@ class Workers(unittest.TestCase):
         kept = nonobench._process.PATH
         self.addCleanup(setattr, nonobench._process, "PATH", kept)
         nonobench._process.PATH = "/nowhere/libnonobench.so"
-        with nonobench.Worker(seconds=300) as worker, self.assertRaisesRegex(RuntimeError, "the worker's program failed"):
+        with nonobench.Worker(seconds=300) as worker, self.assertRaisesRegex(
+            RuntimeError, "the worker's program failed"
+        ):
             worker.clues(DIAGONAL)
 
     def test_no_standard_streams(self):
         # A program may have closed its own: then the stream has their numbers.
-        program = textwrap.dedent(f"""
+        program = textwrap.dedent(
+            f"""
             import os, nonobench
             for at in range(3):
                 os.close(at)
             worker = nonobench.Worker(seconds=300)
             os._exit(0 if worker.clues({DIAGONAL!r}) == nonobench.clues({DIAGONAL!r}) else 1)
-        """)
+        """
+        )
         env = {**os.environ, "PYTHONPATH": str(PACKAGE)}
-        self.assertEqual(subprocess.run([sys.executable, "-c", program], env=env, check=False).returncode, 0)
+        self.assertEqual(
+            subprocess.run([sys.executable, "-c", program], env=env, check=False).returncode, 0
+        )
 
     def test_memory(self):
         # The question alone takes more than is left beside the interpreter.
@@ -155,17 +181,35 @@ class Workers(unittest.TestCase):
                 with self.assertRaisesRegex(MemoryError, "^the worker ended$"):
                     worker.check(DIAGONAL, b" " * 16777216)
                 self.assertEqual(worker.clues(DIAGONAL), nonobench.clues(DIAGONAL))
-        with nonobench.Worker(seconds=300, processor=1) as worker, self.assertRaisesRegex(TimeoutError, "^no answer within its processor time$"):
+        with nonobench.Worker(seconds=300, processor=1) as worker, self.assertRaisesRegex(
+            TimeoutError, "^no answer within its processor time$"
+        ):
             worker.verdict(ENDLESS)
         for program in ("/bin/true", "/bin/echo", "/bin/cat"):
-            with self.subTest(program), unittest.mock.patch.object(sys, "executable", program), self.assertRaisesRegex(OSError, "needs a Python"):
+            with self.subTest(program), unittest.mock.patch.object(
+                sys, "executable", program
+            ), self.assertRaisesRegex(OSError, "needs a Python"):
                 nonobench.Worker().clues(TILE)
 
     def test_bounds(self):
-        for bounds in ({"memory": "x"}, {"memory": 1.5}, {"memory": None}, {"seconds": "5"}, {"seconds": None}):
+        for bounds in (
+            {"memory": "x"},
+            {"memory": 1.5},
+            {"memory": None},
+            {"seconds": "5"},
+            {"seconds": None},
+        ):
             with self.assertRaises(TypeError):
                 nonobench.Worker(**bounds)
-        for bounds in ({"memory": 0}, {"memory": -1}, {"memory": 1 << 63}, {"seconds": 0}, {"seconds": -1}, {"seconds": float("nan")}, {"seconds": 1e300}):
+        for bounds in (
+            {"memory": 0},
+            {"memory": -1},
+            {"memory": 1 << 63},
+            {"seconds": 0},
+            {"seconds": -1},
+            {"seconds": float("nan")},
+            {"seconds": 1e300},
+        ):
             with self.assertRaises(ValueError):
                 nonobench.Worker(**bounds)
 
@@ -180,8 +224,14 @@ class Workers(unittest.TestCase):
         asked = [(DIAGONAL, 0), (DIAGONAL, 1), (TILE,)]
         answers = []
         with nonobench.Worker(seconds=300) as worker:
-            threads = [threading.Thread(target=lambda words=words: answers.extend((words, worker.verdict(*words)) for _ in range(50)))
-                       for words in asked]
+            threads = [
+                threading.Thread(
+                    target=lambda words=words: answers.extend(
+                        (words, worker.verdict(*words)) for _ in range(50)
+                    )
+                )
+                for words in asked
+            ]
             for thread in threads:
                 thread.start()
             for thread in threads:
@@ -194,7 +244,9 @@ class Workers(unittest.TestCase):
     def test_a_program_that_is_no_python(self):
         for program in ("", None, "/bin/true", "/bin/sh"):
             with self.subTest(program), unittest.mock.patch.object(sys, "executable", program):
-                with self.assertRaisesRegex(OSError, f"^a Worker needs a Python in sys.executable, and not {program!r}$"):
+                with self.assertRaisesRegex(
+                    OSError, f"^a Worker needs a Python in sys.executable, and not {program!r}$"
+                ):
                     nonobench.Worker().clues(TILE)
 
 
@@ -280,7 +332,9 @@ class Interrupts(unittest.TestCase):
                 # A question whose answer nobody takes, and is not there yet when the next one is asked.
                 worker._process.send(number, b"1 300 0", DIAGONAL, b"", GIVEN)
                 worker._process.is_waiting = lambda: True
-                with self.assertRaisesRegex(RuntimeError, f"^the worker answered question {number} instead of 2$"):
+                with self.assertRaisesRegex(
+                    RuntimeError, f"^the worker answered question {number} instead of 2$"
+                ):
                     worker.check(TILE, b"junk", published=nonobench.ANY_GIVEN)
                 with self.assertRaisesRegex(CertificateFault, "NotCert"):
                     worker.check(TILE, b"junk", published=nonobench.ANY_GIVEN)
@@ -321,7 +375,9 @@ class Interrupts(unittest.TestCase):
 
             def close(*_):
                 worker.close()
-                self.addCleanup(os.close, os.open(os.devnull, os.O_RDONLY))  # where a number is free, this has it
+                self.addCleanup(
+                    os.close, os.open(os.devnull, os.O_RDONLY)
+                )  # where a number is free, this has it
 
             signal.signal(signal.SIGALRM, close)
             signal.setitimer(signal.ITIMER_REAL, 0.2)
@@ -373,9 +429,15 @@ class Interrupts(unittest.TestCase):
                 child = os.fork()
                 if child == 0:
                     try:
-                        is_new = worker._process is None  # before a call, which another thread may make at the same time
+                        is_new = (
+                            worker._process is None
+                        )  # before a call, which another thread may make at the same time
                         worker.verdict(TILE)
-                        is_good = is_new and worker._process.pid != pid and worker.clues(DIAGONAL) == nonobench.clues(DIAGONAL)
+                        is_good = (
+                            is_new
+                            and worker._process.pid != pid
+                            and worker.clues(DIAGONAL) == nonobench.clues(DIAGONAL)
+                        )
                         worker.close()
                         os._exit(0 if is_good else 1)
                     finally:
@@ -418,8 +480,13 @@ class Ends(unittest.TestCase):
             print(worker._process.pid, flush=True)
         """
         for end in ("", "os.kill(os.getpid(), signal.SIGKILL)"):
-            run = subprocess.run([sys.executable, "-c", textwrap.dedent(program) + end], env={**os.environ, "PYTHONPATH": str(PACKAGE)},
-                                 capture_output=True, text=True, check=False)
+            run = subprocess.run(
+                [sys.executable, "-c", textwrap.dedent(program) + end],
+                env={**os.environ, "PYTHONPATH": str(PACKAGE)},
+                capture_output=True,
+                text=True,
+                check=False,
+            )
             self.assert_ends(int(run.stdout))
 
     def test_a_program_that_is_killed_during_a_call(self):
@@ -430,8 +497,12 @@ class Ends(unittest.TestCase):
             print(worker._process.pid, flush=True)
             worker.verdict({ENDLESS!r})
         """
-        run = subprocess.Popen([sys.executable, "-c", textwrap.dedent(program)], env={**os.environ, "PYTHONPATH": str(PACKAGE)},
-                               stdout=subprocess.PIPE, text=True)
+        run = subprocess.Popen(
+            [sys.executable, "-c", textwrap.dedent(program)],
+            env={**os.environ, "PYTHONPATH": str(PACKAGE)},
+            stdout=subprocess.PIPE,
+            text=True,
+        )
         with run:
             pid = int(run.stdout.readline())
             self.addCleanup(lambda: is_running(pid) and os.kill(pid, signal.SIGKILL))
@@ -443,7 +514,19 @@ class Ends(unittest.TestCase):
 
 
 # What a stranger may have put into the current folder, or into one of PYTHONPATH. Each file says that it was run.
-HOSTILE = ("resource", "struct", "pickle", "ctypes", "os", "socket", "types", "json", "sitecustomize", "usercustomize", "encodings")
+HOSTILE = (
+    "resource",
+    "struct",
+    "pickle",
+    "ctypes",
+    "os",
+    "socket",
+    "types",
+    "json",
+    "sitecustomize",
+    "usercustomize",
+    "encodings",
+)
 
 
 class Folders(unittest.TestCase):
@@ -455,12 +538,18 @@ class Folders(unittest.TestCase):
             text = f"open({str(mark)!r}, 'a').write(__name__ + '\\n')\nRLIMIT_AS = 9\nsetrlimit = lambda *a: 0\n"
             for name in HOSTILE:
                 Path(folder, f"{name}.py").write_text(text, encoding="utf-8")
-            for name in ("nonobench/__init__.py", "nonobench/_serve.py", "nonobench/_library.py", "ctypes/__init__.py"):
+            for name in (
+                "nonobench/__init__.py",
+                "nonobench/_serve.py",
+                "nonobench/_library.py",
+                "ctypes/__init__.py",
+            ):
                 Path(folder, name).parent.mkdir(exist_ok=True)
                 Path(folder, name).write_text(text, encoding="utf-8")
             Path(folder, "libnonobench.so").write_bytes(b"no library")
             # The program itself looks nowhere there; its worker must not either, though it inherits folder and variables.
-            program = textwrap.dedent(f"""
+            program = textwrap.dedent(
+                f"""
                 import os, sys
                 sys.path.append({str(PACKAGE)!r})
                 os.environ.update(PYTHONPATH={folder!r}, PYTHONSTARTUP={folder + "/os.py"!r}, PYTHONHOME='')
@@ -470,9 +559,18 @@ class Folders(unittest.TestCase):
                     print(worker.clues({DIAGONAL!r}), end="")
                     limits = open(f"/proc/{{worker._process.pid}}/limits").read()
                 print([line for line in limits.splitlines() if "address space" in line][0].split()[3])
-            """)
-            run = subprocess.run([sys.executable, "-I", "-c", program], cwd="/", capture_output=True, text=True, check=False)
-            self.assertEqual((run.stdout, run.stderr), (f"{nonobench.clues(DIAGONAL)}{1 << 30}\n", ""))
+            """
+            )
+            run = subprocess.run(
+                [sys.executable, "-I", "-c", program],
+                cwd="/",
+                capture_output=True,
+                text=True,
+                check=False,
+            )
+            self.assertEqual(
+                (run.stdout, run.stderr), (f"{nonobench.clues(DIAGONAL)}{1 << 30}\n", "")
+            )
             self.assertFalse(mark.exists(), mark.exists() and mark.read_text(encoding="utf-8"))
 
     def test_a_library_that_is_named_from_the_current_folder(self):
@@ -482,17 +580,25 @@ class Folders(unittest.TestCase):
             Path(folder, "in").mkdir()
             Path(other, "link").symlink_to(Path(folder, "in"))
             Path(other, "named.so").write_bytes(b"no library")
-            program = textwrap.dedent(f"""
+            program = textwrap.dedent(
+                f"""
                 import os, sys
                 sys.path.append({str(PACKAGE)!r})
                 import nonobench
                 os.chdir({other!r})
                 with nonobench.Worker(seconds=300) as worker:
                     print(worker.clues({DIAGONAL!r}), end="")
-            """)
+            """
+            )
             for begun, named in ((folder, "./named.so"), (other, "link/../named.so")):
-                run = subprocess.run([sys.executable, "-I", "-c", program], cwd=begun, capture_output=True, text=True, check=False,
-                                     env={**os.environ, "NONOBENCH_LIBRARY": named})
+                run = subprocess.run(
+                    [sys.executable, "-I", "-c", program],
+                    cwd=begun,
+                    capture_output=True,
+                    text=True,
+                    check=False,
+                    env={**os.environ, "NONOBENCH_LIBRARY": named},
+                )
                 self.assertEqual((run.stdout, run.stderr), (str(nonobench.clues(DIAGONAL)), ""))
 
 

@@ -22,7 +22,11 @@ import pytest
 from tried import ROOT, clean_env, ended, needs
 
 PROGRESS = r'(?m)^nonobench-audit: [0-9]+( of [0-9]+)? files, .*\n'
-PAGES = {'README': ROOT / 'README.md', 'TUTORIAL': ROOT / 'docs' / 'TUTORIAL.md', 'RECIPES': ROOT / 'docs' / 'RECIPES.md'}
+PAGES = {
+    'README': ROOT / 'README.md',
+    'TUTORIAL': ROOT / 'docs' / 'TUTORIAL.md',
+    'RECIPES': ROOT / 'docs' / 'RECIPES.md',
+}
 
 
 def blocks_of(page, kind):
@@ -34,7 +38,11 @@ def blocks_of(page, kind):
             found.append([content, words[1:], None])
         elif words[0] == 'text' and found and found[-1][2] is None:
             found[-1][2] = content
-    return [(commands, words[1] if words[:1] == ['needs'] else None, printed) for commands, words, printed in found if kind(words)]
+    return [
+        (commands, words[1] if words[:1] == ['needs'] else None, printed)
+        for commands, words, printed in found
+        if kind(words)
+    ]
 
 
 def has(tool):
@@ -42,7 +50,8 @@ def has(tool):
     if tool == 'imagemagick':
         return (
             bool(shutil.which('convert'))
-            and 'Version: ImageMagick' in subprocess.run(['convert', '-version'], capture_output=True, text=True).stdout
+            and 'Version: ImageMagick'
+            in subprocess.run(['convert', '-version'], capture_output=True, text=True).stdout
         )
     return bool(shutil.which(tool))
 
@@ -54,13 +63,24 @@ def run_blocks(blocks, folder, env, without=None):
         if tool and not has(tool):
             missing.append(tool)
             continue
-        run = ended(['bash', '-e', '-c', commands], cwd=folder, env=env, stdin=subprocess.DEVNULL, stderr=subprocess.STDOUT)
+        run = ended(
+            ['bash', '-e', '-c', commands],
+            cwd=folder,
+            env=env,
+            stdin=subprocess.DEVNULL,
+            stderr=subprocess.STDOUT,
+        )
         printed = run.wrote.decode()
         assert run.status == 0, f'{commands}\nended with {run.status}:\n{printed[-3000:]}'
         printed = re.sub(without, '', printed) if without else printed
         if wanted is not None and printed != wanted:
             pytest.fail(
-                commands + ''.join(difflib.unified_diff(wanted.splitlines(True), printed.splitlines(True), 'the page', 'printed')),
+                commands
+                + ''.join(
+                    difflib.unified_diff(
+                        wanted.splitlines(True), printed.splitlines(True), 'the page', 'printed'
+                    )
+                ),
                 pytrace=False,
             )
     return missing
@@ -76,7 +96,9 @@ def plain_blocks(page):
     return blocks_of(PAGES[page], lambda words: not words or words[0] == 'needs')
 
 
-@pytest.mark.parametrize('page', [page for page in PAGES if page != 'RECIPES' or plain_blocks(page)])
+@pytest.mark.parametrize(
+    'page', [page for page in PAGES if page != 'RECIPES' or plain_blocks(page)]
+)
 def test_commands(kept, page, tmp_path):
     program = kept.program('nonobench')
     (tmp_path / 'home').mkdir()
@@ -93,7 +115,12 @@ def test_commands(kept, page, tmp_path):
         install_program(program, tmp_path / 'bin')
     blocks = plain_blocks(page)
     assert blocks
-    env = {**os.environ, 'PATH': f'{tmp_path}/bin:{os.environ["PATH"]}', 'HOME': f'{tmp_path}/home', 'NONOBENCH': str(ROOT)}
+    env = {
+        **os.environ,
+        'PATH': f'{tmp_path}/bin:{os.environ["PATH"]}',
+        'HOME': f'{tmp_path}/home',
+        'NONOBENCH': str(ROOT),
+    }
     env.pop('CDPATH', None)
     missing = run_blocks(blocks, here, env)
     if missing:
@@ -109,7 +136,9 @@ def test_python_of_readme(tmp_path):
     assert blocks
     without = {name: value for name, value in os.environ.items() if name != 'NONOBENCH_LIBRARY'}
     for block in blocks:
-        run = ended([sys.executable, '-c', block], cwd=ROOT, env={**without, 'PYTHONPATH': str(tmp_path)})
+        run = ended(
+            [sys.executable, '-c', block], cwd=ROOT, env={**without, 'PYTHONPATH': str(tmp_path)}
+        )
         assert run.status == 0, run
 
 
@@ -127,7 +156,11 @@ def test_commands_for_sites(kept, library, tmp_path):
     installed = tmp_path / 'installed'
     for name in ('bin', 'include', 'lib'):
         (installed / name).mkdir(parents=True)
-    commands = {'python3': '', 'nonobench-audit': ' -m nonobench.audit', 'nonobench-check-site': ' -m nonobench.check_site'}
+    commands = {
+        'python3': '',
+        'nonobench-audit': ' -m nonobench.audit',
+        'nonobench-check-site': ' -m nonobench.check_site',
+    }
     for name, words in commands.items():
         command = installed / 'bin' / name
         command.write_text(f'#!/bin/sh\nexec {sys.executable}{words} "$@"\n')
@@ -153,5 +186,10 @@ def test_commands_for_sites_by_the_archive(installed, tmp_path):
     """By what the archive for Linux installed, and nothing else."""
     needs('cc')
     shown = installed / 'share' / 'doc' / 'nonobench'
-    env = clean_env(before=installed / 'bin', NONOBENCH=shown, PREFIX=installed, PYTHONPATH=installed / 'lib' / 'nonobench')
+    env = clean_env(
+        before=installed / 'bin',
+        NONOBENCH=shown,
+        PREFIX=installed,
+        PYTHONPATH=installed / 'lib' / 'nonobench',
+    )
     run_blocks(for_sites(shown / 'docs' / 'RECIPES.md'), tmp_path, env, without=PROGRESS)

@@ -41,91 +41,317 @@ STATED = [
     ('docs/FORMATS.md', 'digits only and is from 1 to N, else BadSize', 1, [PICTURE]),
     ('docs/FORMATS.md', 'A line of more than N bytes is LongLine', 1, [LINE]),
     ('docs/FORMATS.md', 'A session makes at most N reads', 1, [READS]),
-    ('docs/FORMATS.md', 'each with room for N bytes', 1, [('crates/command_text/src/lines.rt', ' ROOM: usize =')]),
-    ('docs/FORMATS.md', 'a place is from 1 to N', 1, [('crates/command_text/src/numbers.rt', 'A place: a number from 1 to')]),
-    ('docs/FORMATS.md', 'a sample from 0 to N', 1, [('crates/command_text/src/numbers.rt', 'with a value up to')]),
-    ('docs/FORMATS.md', 'the lemma that began has N literals', 1, [('crates/cert_text/src/cert_line.rt', 'MAX_LEMMA_LITERALS: usize =')]),
-    ('docs/FORMATS.md', 'has 1,024 literals already, or N together', 1, [('crates/cert_text/src/cert_line.rt', 'MAX_LITERALS: usize =')]),
-    ('docs/FORMATS.md', '`line`, `use` and `drop` have 1 to N words', 1, [('crates/cert_text/src/runs.rt', 'MAX_RUN: usize =')]),
+    (
+        'docs/FORMATS.md',
+        'each with room for N bytes',
+        1,
+        [('crates/command_text/src/lines.rt', ' ROOM: usize =')],
+    ),
+    (
+        'docs/FORMATS.md',
+        'a place is from 1 to N',
+        1,
+        [('crates/command_text/src/numbers.rt', 'A place: a number from 1 to')],
+    ),
+    (
+        'docs/FORMATS.md',
+        'a sample from 0 to N',
+        1,
+        [('crates/command_text/src/numbers.rt', 'with a value up to')],
+    ),
+    (
+        'docs/FORMATS.md',
+        'the lemma that began has N literals',
+        1,
+        [('crates/cert_text/src/cert_line.rt', 'MAX_LEMMA_LITERALS: usize =')],
+    ),
+    (
+        'docs/FORMATS.md',
+        'has 1,024 literals already, or N together',
+        1,
+        [('crates/cert_text/src/cert_line.rt', 'MAX_LITERALS: usize =')],
+    ),
+    (
+        'docs/FORMATS.md',
+        '`line`, `use` and `drop` have 1 to N words',
+        1,
+        [('crates/cert_text/src/runs.rt', 'MAX_RUN: usize =')],
+    ),
     ('docs/FORMATS.md', 'splits (0 to N)', 1, [ALLOWANCE]),
     ('docs/FORMATS.md', 'N, from 1 to N, is how many edits can be undone', 1, [DEPTH]),
     ('docs/FORMATS.md', 'is how many edits can be undone; it is N by default', 1, [HISTORY]),
     ("docs/FORMATS.md", "other than a session's commands has at most N bytes", 1, [INPUT]),
-    ('docs/FORMATS.md', 'An image has at most N MiB', MIB, [('page/import/decoding.js', 'MOST_IMAGE =')]),
-    ('docs/FORMATS.md', 'An archive has at most N GiB', 1024 * MIB, [('page/import/taking.js', 'MOST_ARCHIVE =')]),
-    ('docs/FORMATS.md', 'any other file N bytes', 1, [('page/formats/ppm.js', 'MOST_BYTES_READ =')]),
+    (
+        'docs/FORMATS.md',
+        'An image has at most N MiB',
+        MIB,
+        [('page/import/decoding.js', 'MOST_IMAGE =')],
+    ),
+    (
+        'docs/FORMATS.md',
+        'An archive has at most N GiB',
+        1024 * MIB,
+        [('page/import/taking.js', 'MOST_ARCHIVE =')],
+    ),
+    (
+        'docs/FORMATS.md',
+        'any other file N bytes',
+        1,
+        [('page/formats/ppm.js', 'MOST_BYTES_READ =')],
+    ),
     ('docs/FORMATS.md', 'A picture of at most N by 120 pixels', 1, [PICTURE]),
-    ('docs/FORMATS.md', 'name cells, at most N a line', 1, [('page/formats/ppm_notes.js', 'places.length; at \\+=')]),
-    ('docs/FORMATS.md', 'stored or deflated, of at most N MiB each', MIB, [('page/formats/zip.js', 'MOST_ENTRY =')]),
-    ('docs/FORMATS.md', 'a picture is searched for up to N seconds', 1000, [('page/import/reading.js', 'MOST_SEARCH =')]),
+    (
+        'docs/FORMATS.md',
+        'name cells, at most N a line',
+        1,
+        [('page/formats/ppm_notes.js', 'places.length; at \\+=')],
+    ),
+    (
+        'docs/FORMATS.md',
+        'stored or deflated, of at most N MiB each',
+        MIB,
+        [('page/formats/zip.js', 'MOST_ENTRY =')],
+    ),
+    (
+        'docs/FORMATS.md',
+        'a picture is searched for up to N seconds',
+        1000,
+        [('page/import/reading.js', 'MOST_SEARCH =')],
+    ),
     ('docs/FORMATS.md', 'Files are regular, of at most N MiB', MIB, [FILES]),
     ('docs/FORMATS.md', 'or is longer than N MiB, the row has an error', MIB, [FILES]),
     ('docs/FORMATS.md', 'An image of more than N by 120 pixels', 1, [IMAGE]),
     ('docs/FORMATS.md', '(N + s) dr dr', 1, [(REDMEAN, r'    weighted\(')]),
     ('docs/FORMATS.md', 'dr dr + N dg dg', 1, [(REDMEAN, r'\+ weighted\((?=2)')]),
     ('docs/FORMATS.md', 'dg dg + (N - s) db db', 1, [(REDMEAN, r'\+ weighted\((?=1)')]),
-    ('docs/FORMATS.md', 'a PPM picture N pixels a side', 1, [('page/formats/ppm.js', 'MOST_PIXELS =')]),
-    ('docs/FORMATS.md', 'MiB, and N pixels by its header', 1, [('page/import/decoding.js', 'MOST_DECODED =')]),
-    ('docs/FORMATS.md', 'Images above N pixels a side', 1, [('page/import/decoding.js', 'MOST_SIDE =')]),
-    ('docs/FORMATS.md', 'and draws at most N elements', 1, [('page/import/drawn.js', 'MOST_DRAWN =')]),
+    (
+        'docs/FORMATS.md',
+        'a PPM picture N pixels a side',
+        1,
+        [('page/formats/ppm.js', 'MOST_PIXELS =')],
+    ),
+    (
+        'docs/FORMATS.md',
+        'MiB, and N pixels by its header',
+        1,
+        [('page/import/decoding.js', 'MOST_DECODED =')],
+    ),
+    (
+        'docs/FORMATS.md',
+        'Images above N pixels a side',
+        1,
+        [('page/import/decoding.js', 'MOST_SIDE =')],
+    ),
+    (
+        'docs/FORMATS.md',
+        'and draws at most N elements',
+        1,
+        [('page/import/drawn.js', 'MOST_DRAWN =')],
+    ),
     (
         'docs/FORMATS.md',
         'elements nested more than N deep',
         1,
-        [('page/formats/xml.js', 'MOST_XML_DEPTH ='), ('python/src/nonobench/collection/webpbn.py', 'MOST_DEPTH =')],
+        [
+            ('page/formats/xml.js', 'MOST_XML_DEPTH ='),
+            ('python/src/nonobench/collection/webpbn.py', 'MOST_DEPTH ='),
+        ],
     ),
     (
         'docs/FORMATS.md',
         'deep, more than N elements',
         1,
-        [('page/formats/xml.js', 'MOST_XML_ELEMENTS ='), ('python/src/nonobench/collection/webpbn.py', 'MOST_ELEMENTS =')],
+        [
+            ('page/formats/xml.js', 'MOST_XML_ELEMENTS ='),
+            ('python/src/nonobench/collection/webpbn.py', 'MOST_ELEMENTS ='),
+        ],
     ),
-    ('docs/FORMATS.md', 'TooMany (more than N)', 1, [('page/formats/palettes.js', 'MOST_COLOURS =')]),
-    ('docs/FORMATS.md', 'in at most N characters', 1, [('page/library/records.js', 'MOST_SIGNS =')]),
-    ('docs/FORMATS.md', 'A puzzle of more than N rows or columns', 1, [('page/export/sheets.js', 'MOST_LINES =')]),
-    ('docs/FORMATS.md', 'sizes but the last are multiples of N', 1, [('page/export/sheets.js', r'/ MOST_LINES\) /')]),
+    (
+        'docs/FORMATS.md',
+        'TooMany (more than N)',
+        1,
+        [('page/formats/palettes.js', 'MOST_COLOURS =')],
+    ),
+    (
+        'docs/FORMATS.md',
+        'in at most N characters',
+        1,
+        [('page/library/records.js', 'MOST_SIGNS =')],
+    ),
+    (
+        'docs/FORMATS.md',
+        'A puzzle of more than N rows or columns',
+        1,
+        [('page/export/sheets.js', 'MOST_LINES =')],
+    ),
+    (
+        'docs/FORMATS.md',
+        'sizes but the last are multiples of N',
+        1,
+        [('page/export/sheets.js', r'/ MOST_LINES\) /')],
+    ),
     ('docs/FORMATS.md', '`nonobench: input too long`: more than N bytes', 1, [INPUT]),
-    ('docs/FORMATS.md', 'is cut into parts of at most N', 1, [('page/export/sheets.js', 'MOST_LINES =')]),
-    ('docs/FORMATS.md', 'with every tint is at least N to 1', 1, [('tests/page/page_sheets.mjs', 'least >=')]),
-    ('docs/FORMATS.md', 'the page reads at most N files', 1, [('page/import/beside.js', 'MOST_AT_ONCE =')]),
+    (
+        'docs/FORMATS.md',
+        'is cut into parts of at most N',
+        1,
+        [('page/export/sheets.js', 'MOST_LINES =')],
+    ),
+    (
+        'docs/FORMATS.md',
+        'with every tint is at least N to 1',
+        1,
+        [('tests/page/page_sheets.mjs', 'least >=')],
+    ),
+    (
+        'docs/FORMATS.md',
+        'the page reads at most N files',
+        1,
+        [('page/import/beside.js', 'MOST_AT_ONCE =')],
+    ),
     ('docs/FORMATS.md', 'db db < N', 1, [(REDMEAN, r'rgb_shown\(maxval, other\)\) <')]),
-    ('docs/FORMATS.md', '| easy | none | at most N rounds', 1, [(GRADE, r'rounds <= (?=.*\n *Word::Easy)')]),
-    ('docs/FORMATS.md', 'at most 2 rounds, and a longest wait of at most N', 1, [(GRADE, r'wait <= (?=.*\n *Word::Easy)')]),
-    ('docs/FORMATS.md', '| medium | none | at most N rounds', 1, [(GRADE, r'rounds <= (?=.*\n *Word::Medium)')]),
-    ('docs/FORMATS.md', 'at most 4 rounds, and a longest wait of at most N', 1, [(GRADE, r'wait <= (?=.*\n *Word::Medium)')]),
-    ('docs/FORMATS.md', '| very hard | some | at most N splits', 1, [(GRADE, r'splits <= (?=.*\n *Word::VeryHard)')]),
-    ('docs/FORMATS.md', 'at most 3 splits, and a depth of at most N', 1, [(GRADE, r'depth <= (?=.*\n *Word::VeryHard)')]),
+    (
+        'docs/FORMATS.md',
+        '| easy | none | at most N rounds',
+        1,
+        [(GRADE, r'rounds <= (?=.*\n *Word::Easy)')],
+    ),
+    (
+        'docs/FORMATS.md',
+        'at most 2 rounds, and a longest wait of at most N',
+        1,
+        [(GRADE, r'wait <= (?=.*\n *Word::Easy)')],
+    ),
+    (
+        'docs/FORMATS.md',
+        '| medium | none | at most N rounds',
+        1,
+        [(GRADE, r'rounds <= (?=.*\n *Word::Medium)')],
+    ),
+    (
+        'docs/FORMATS.md',
+        'at most 4 rounds, and a longest wait of at most N',
+        1,
+        [(GRADE, r'wait <= (?=.*\n *Word::Medium)')],
+    ),
+    (
+        'docs/FORMATS.md',
+        '| very hard | some | at most N splits',
+        1,
+        [(GRADE, r'splits <= (?=.*\n *Word::VeryHard)')],
+    ),
+    (
+        'docs/FORMATS.md',
+        'at most 3 splits, and a depth of at most N',
+        1,
+        [(GRADE, r'depth <= (?=.*\n *Word::VeryHard)')],
+    ),
     ('docs/ARCHITECTURE.md', 'or up to N splits if none is set', 1, [(BOUNDS, 'fixed_splits:')]),
     ('docs/ARCHITECTURE.md', 'once more, up to N splits', 1, [(BOUNDS, 'again_splits:')]),
-    ('docs/ARCHITECTURE.md', 'searches with lemmas, up to N conflicts', 1, [(BOUNDS, r'window_splits: \d+,\n    conflicts:')]),
+    (
+        'docs/ARCHITECTURE.md',
+        'searches with lemmas, up to N conflicts',
+        1,
+        [(BOUNDS, r'window_splits: \d+,\n    conflicts:')],
+    ),
     ('docs/RECIPES.md', 'Only regular files of at most N MiB are read', MIB, [FILES]),
-    ('docs/RECIPES.md', 'Each puzzle has about N seconds', 1, [(AUDIT, r'seconds: Optional\[float\] =')]),
-    ('docs/RECIPES.md', '(`--seconds`), and each process N MiB', 1, [(AUDIT, '"--memory".*default=')]),
-    ('docs/RECIPES.md', '(`--memory`); a file has N times the seconds', 1, [('python/src/nonobench/collection/workers.py', 'MOST_TIMES =')]),
-    ('docs/FORMATS.md', 'every puzzle of a file, of at most N,', 1, [('python/src/nonobench/collection/webpbn.py', 'MOST_PUZZLES =')]),
-    ('docs/FORMATS.md', 'with a tag or comment above N MiB', MIB, [('python/src/nonobench/collection/webpbn.py', 'MOST_PART =')]),
-    ('docs/FORMATS.md', 'or is above N characters', 1, [('python/src/nonobench/collection/webpbn.py', 'MOST_SPACE =')]),
-    ('docs/RECIPES.md', 'A check has N seconds of processor time', 1, [(SITE, '"--processor".*default=')]),
-    ('docs/RECIPES.md', 'of processor time, N seconds of wall-clock time', 1, [(SITE, '"--seconds".*default=')]),
+    (
+        'docs/RECIPES.md',
+        'Each puzzle has about N seconds',
+        1,
+        [(AUDIT, r'seconds: Optional\[float\] =')],
+    ),
+    (
+        'docs/RECIPES.md',
+        '(`--seconds`), and each process N MiB',
+        1,
+        [(AUDIT, '"--memory".*default=')],
+    ),
+    (
+        'docs/RECIPES.md',
+        '(`--memory`); a file has N times the seconds',
+        1,
+        [('python/src/nonobench/collection/workers.py', 'MOST_TIMES =')],
+    ),
+    (
+        'docs/FORMATS.md',
+        'every puzzle of a file, of at most N,',
+        1,
+        [('python/src/nonobench/collection/webpbn.py', 'MOST_PUZZLES =')],
+    ),
+    (
+        'docs/FORMATS.md',
+        'with a tag or comment above N MiB',
+        MIB,
+        [('python/src/nonobench/collection/webpbn.py', 'MOST_PART =')],
+    ),
+    (
+        'docs/FORMATS.md',
+        'or is above N characters',
+        1,
+        [('python/src/nonobench/collection/webpbn.py', 'MOST_SPACE =')],
+    ),
+    (
+        'docs/RECIPES.md',
+        'A check has N seconds of processor time',
+        1,
+        [(SITE, '"--processor".*default=')],
+    ),
+    (
+        'docs/RECIPES.md',
+        'of processor time, N seconds of wall-clock time',
+        1,
+        [(SITE, '"--seconds".*default=')],
+    ),
     ('docs/RECIPES.md', 'of wall-clock time, and N MiB', 1, [(SITE, '"--memory".*default=')]),
     ('packages/npm/README.md', 'an `ArrayBuffer` of at most N bytes', 1, [INPUT]),
     ('packages/npm/README.md', 'from 1 to N; the default is', 1, [DEPTH]),
     ('packages/npm/README.md', 'from 1 to 1,000; the default is N', 1, [HISTORY]),
     ('packages/npm/README.md', 'regular files of at most N MiB', MIB, [(UPLOAD, 'MOST_BYTES =')]),
-    ('packages/npm/README.md', 'allows N seconds of processor time', 1, [(UPLOAD, 'MOST_PROCESSOR =')]),
-    ('packages/npm/README.md', 'of processor time, or N of wall-clock time', 1, [(UPLOAD, 'MOST_CLOCK =')]),
-    ('packages/npm/README.md', 'The module has at most N GiB', 1024 * MIB, [('web/build', '--max-memory=')]),
+    (
+        'packages/npm/README.md',
+        'allows N seconds of processor time',
+        1,
+        [(UPLOAD, 'MOST_PROCESSOR =')],
+    ),
+    (
+        'packages/npm/README.md',
+        'of processor time, or N of wall-clock time',
+        1,
+        [(UPLOAD, 'MOST_CLOCK =')],
+    ),
+    (
+        'packages/npm/README.md',
+        'The module has at most N GiB',
+        1024 * MIB,
+        [('web/build', '--max-memory=')],
+    ),
     ('packages/npm/README.md', 'takes at most N by 120 cells', 1, [PICTURE]),
     ('packages/npm/README.md', 'by 120 cells in N colours', 1, [COLOURS]),
-    ('packages/npm/README.md', 'the call returns status N', 1, [('web/within.h', 'OPTIONS ='), ('c/nonobench.h', 'NONOBENCH_OPTIONS =')]),
-    ('python/README.md', 'a triple of numbers from 0 to N', 1, [('python/src/nonobench/_calls.py', 'MOST_SAMPLE =')]),
+    (
+        'packages/npm/README.md',
+        'the call returns status N',
+        1,
+        [('web/within.h', 'OPTIONS ='), ('c/nonobench.h', 'NONOBENCH_OPTIONS =')],
+    ),
+    (
+        'python/README.md',
+        'a triple of numbers from 0 to N',
+        1,
+        [('python/src/nonobench/_calls.py', 'MOST_SAMPLE =')],
+    ),
     ('examples/site/README.md', 'an image N by 120 pixels', 1, [IMAGE]),
     ('examples/site/README.md', 'N uploads are checked at once', 1, [(EXAMPLE, ' WORKERS=')]),
     ('examples/site/README.md', 'Above N connections one is closed', 1, [(EXAMPLE, 'MOST_OPEN =')]),
     ('examples/site/README.md', 'If over N wait for answers', 1, [(EXAMPLE, 'MOST_WAITING =')]),
     # Twice the bytes of an upload.
     ('examples/site/README.md', 'A body above N MiB', MIB // 2, [(EXAMPLE, 'MAX_CONTENT_LENGTH=')]),
-    ('examples/site/README.md', 'An upload has at most N MiB', MIB, [(EXAMPLE, 'MAX_CONTENT_LENGTH=')]),
+    (
+        'examples/site/README.md',
+        'An upload has at most N MiB',
+        MIB,
+        [(EXAMPLE, 'MAX_CONTENT_LENGTH=')],
+    ),
     ('examples/site/README.md', 'each is ended after N seconds', 1, [(EXAMPLE, ' SECONDS=')]),
     ('examples/site/README.md', 'in a process with N GiB', 1024 * MIB, [(EXAMPLE, ' MEMORY=')]),
     ('examples/site/README.md', 'Titles are cut at N characters', 1, [(EXAMPLE, 'MOST_TITLE =')]),
@@ -136,10 +362,30 @@ STATED = [
     ('docs/TUTORIAL.md', 'Pictures have at most N rows', 1, [PICTURE]),
     ('docs/TUTORIAL.md', 'at most 120 rows, N columns', 1, [PICTURE]),
     ('docs/TUTORIAL.md', '120 columns and N colours', 1, [COLOURS]),
-    ('CONTRIBUTING.md', 'Lines have at most N characters in', 1, [('.ci/house.py', r"wide_lines\('specs',")]),
-    ('CONTRIBUTING.md', 'in `specs/` and N in `proofs/`', 1, [('.ci/house.py', r"wide_lines\('proofs',")]),
-    ('page/README.md', 'on a processor slowed N times', 1, [('tests/page/page_limit.mjs', 'SLOWED =')]),
-    ('page/README.md', 'The page may have at most N bytes', 1, [('web/join.mjs', 'MOST ='), ('tests/page/page_limit.mjs', 'MOST_BYTES =')]),
+    (
+        'CONTRIBUTING.md',
+        'Lines have at most N characters in',
+        1,
+        [('.ci/house.py', r"wide_lines\('specs',")],
+    ),
+    (
+        'CONTRIBUTING.md',
+        'in `specs/` and N in `proofs/`',
+        1,
+        [('.ci/house.py', r"wide_lines\('proofs',")],
+    ),
+    (
+        'page/README.md',
+        'on a processor slowed N times',
+        1,
+        [('tests/page/page_limit.mjs', 'SLOWED =')],
+    ),
+    (
+        'page/README.md',
+        'The page may have at most N bytes',
+        1,
+        [('web/join.mjs', 'MOST ='), ('tests/page/page_limit.mjs', 'MOST_BYTES =')],
+    ),
 ]
 
 
@@ -162,18 +408,31 @@ def said(document, words):
     return WORDS.get(number.lower()) or counted(number)
 
 
-@pytest.mark.parametrize(('document', 'words', 'unit', 'places'), STATED, ids=[f'{row[0]}: {row[1]}' for row in STATED])
+@pytest.mark.parametrize(
+    ('document', 'words', 'unit', 'places'), STATED, ids=[f'{row[0]}: {row[1]}' for row in STATED]
+)
 def test_number(document, words, unit, places):
     for file, before in places:
-        found = re.findall(before + r' ?([\d_.e]+(?: (?:<<|\*) \d+)*)', (ROOT / file).read_text(), re.IGNORECASE)
+        found = re.findall(
+            before + r' ?([\d_.e]+(?: (?:<<|\*) \d+)*)', (ROOT / file).read_text(), re.IGNORECASE
+        )
         assert {said(document, words) * unit} == set(map(counted, found)), file
 
 
 def test_oldest_versions():
     """The Python and the Node.js that documents ask for are those that the packages name."""
-    [python] = re.findall(r'requires-python = ">=(.*)"', (ROOT / 'python' / 'pyproject.toml').read_text())
-    [node] = re.findall(r'"node": ">=(.*)"', (ROOT / 'packages' / 'npm' / 'package.json').read_text())
-    documents = ('docs/RECIPES.md', 'packages/npm/README.md', 'packages/linux/README.md', 'packages/dist-README.txt')
+    [python] = re.findall(
+        r'requires-python = ">=(.*)"', (ROOT / 'python' / 'pyproject.toml').read_text()
+    )
+    [node] = re.findall(
+        r'"node": ">=(.*)"', (ROOT / 'packages' / 'npm' / 'package.json').read_text()
+    )
+    documents = (
+        'docs/RECIPES.md',
+        'packages/npm/README.md',
+        'packages/linux/README.md',
+        'packages/dist-README.txt',
+    )
     text = ' '.join((ROOT / name).read_text() for name in documents)
     assert set(re.findall(r'Python (\d+\.\d+) ', text)) == {python}
     assert set(re.findall(r'(?i)node(?:\.js)? (\d+\.\d+) ', text)) == {node}
@@ -184,20 +443,47 @@ def test_sentences_of_the_comparison():
     with (ROOT / 'docs' / 'comparison.csv').open(newline='') as file:
         rows = list(csv.DictReader(file))
     tuned = {row['picture']: row['tuned'] == 'yes' for row in rows}
-    seconds = {(row['program'], row['picture']): float(row['seconds']) for row in rows if row['answer'] != 'open'}
+    seconds = {
+        (row['program'], row['picture']): float(row['seconds'])
+        for row in rows
+        if row['answer'] != 'open'
+    }
     sizes = {(row['program'], row['picture']): int(row['bytes']) for row in rows if row['bytes']}
     icon, hard = sorted(tuned, key=lambda picture: seconds.get(('nonobench', picture), 0))[:-3:-1]
-    ratios = [size / sizes['nonobench prove', picture] for (program, picture), size in sizes.items() if program == 'cadical, DRAT']
-    took = {program: f'{seconds[program, icon]:.2f}' for program in ('nonobench', 'minisat', 'cadical', 'gringo, clasp')}
+    ratios = [
+        size / sizes['nonobench prove', picture]
+        for (program, picture), size in sizes.items()
+        if program == 'cadical, DRAT'
+    ]
+    took = {
+        program: f'{seconds[program, icon]:.2f}'
+        for program in ('nonobench', 'minisat', 'cadical', 'gringo, clasp')
+    }
     solvers = ('nonobench', 'minisat', 'cadical', 'gringo, clasp', 'gecode')
     unique = sum(row['answer'] == 'unique' for row in rows if row['program'] == 'nonobench')
-    decided = {program: {picture for solver, picture in seconds if solver == program} for program in solvers}
+    decided = {
+        program: {picture for solver, picture in seconds if solver == program}
+        for program in solvers
+    }
     [left] = set(tuned) - set().union(*decided.values())
-    [board] = {(row['height'], row['width'], row['colours']) for row in rows if row['picture'] == left}
-    plain = [seconds.get(('nonobench', picture), 10) for picture, is_tuned in tuned.items() if not is_tuned]
-    sides = sorted(int(row['width']) for row in rows if row['picture'].startswith('hard-') and row['program'] == 'nonobench')
+    [board] = {
+        (row['height'], row['width'], row['colours']) for row in rows if row['picture'] == left
+    }
+    plain = [
+        seconds.get(('nonobench', picture), 10)
+        for picture, is_tuned in tuned.items()
+        if not is_tuned
+    ]
+    sides = sorted(
+        int(row['width'])
+        for row in rows
+        if row['picture'].startswith('hard-') and row['program'] == 'nonobench'
+    )
     assert decided['nonobench'] == set(tuned) - {left}
-    others = {program: sum(not tuned[picture] for picture in pictures) for program, pictures in decided.items()}
+    others = {
+        program: sum(not tuned[picture] for picture in pictures)
+        for program, pictures in decided.items()
+    }
     assert others['nonobench'] == others['gecode']
     sentences = [
         f'One picture, a chequerboard of {board[0]} by {board[1]} cells in {board[2]} colours',

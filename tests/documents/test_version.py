@@ -36,7 +36,10 @@ def test_version(place):
 @pytest.mark.toolchain
 @pytest.mark.parametrize('kind', BUILT, ids=('llvm', 'rattle'))
 def test_version_of_a_program(kept, kind):
-    assert ended([kept.program(f'nonobench{kind}'), '--version']).wrote.decode() == f'nonobench {version_of_tree()}\n'
+    assert (
+        ended([kept.program(f'nonobench{kind}'), '--version']).wrote.decode()
+        == f'nonobench {version_of_tree()}\n'
+    )
 
 
 def test_digest_of_the_release():
@@ -51,5 +54,8 @@ def test_version_of_the_release():
     assert named('CITATION.cff', r'^version: (.*)$') == version
     names = re.findall(r'nonobench[-_]([0-9][0-9.]*[0-9])', (ROOT / 'README.md').read_text())
     assert names and set(names) == {version}
-    packages = [re.match(r'nonobench[-_]([0-9][0-9.]*[0-9])', file.name) for file in (ROOT / 'dist').iterdir()]
+    packages = [
+        re.match(r'nonobench[-_]([0-9][0-9.]*[0-9])', file.name)
+        for file in (ROOT / 'dist').iterdir()
+    ]
     assert {found[1] for found in packages if found} == {version}

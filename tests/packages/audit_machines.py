@@ -39,7 +39,9 @@ def missing():
         return 'ip is not installed'
     if not importlib.util.find_spec('distributed'):
         return 'this Python lacks distributed'
-    if subprocess.run([sys.executable, '-c', 'import nonobench'], env=ENV, capture_output=True, check=False).returncode:
+    if subprocess.run(
+        [sys.executable, '-c', 'import nonobench'], env=ENV, capture_output=True, check=False
+    ).returncode:
         return 'there is no library'
     return None
 
@@ -64,7 +66,20 @@ class Network:
         for link in ('bridge', 'lo'):
             ip('-n', first, 'link', 'set', link, 'up')
         for host, name in enumerate(self.names[1:], 1):
-            ip('-n', first, 'link', 'add', f'v{host}', 'type', 'veth', 'peer', 'name', 'eth0', 'netns', name)
+            ip(
+                '-n',
+                first,
+                'link',
+                'add',
+                f'v{host}',
+                'type',
+                'veth',
+                'peer',
+                'name',
+                'eth0',
+                'netns',
+                name,
+            )
             ip('-n', first, 'link', 'set', f'v{host}', 'master', 'bridge', 'up')
             ip('-n', name, 'address', 'add', f'198.18.1.{host + 1}/24', 'dev', 'eth0')
             for link in ('eth0', 'lo'):
@@ -83,12 +98,31 @@ class Network:
         here = self.folder / name
         here.mkdir()
         with open(self.folder / f'{name}.log', 'wb') as log:
-            words = ['ip', 'netns', 'exec', self.names[host], sys.executable, '-m', *map(str, words)]
-            self.started[name] = subprocess.Popen(words, cwd=here, env=ENV, stdout=log, stderr=subprocess.STDOUT)
+            words = [
+                'ip',
+                'netns',
+                'exec',
+                self.names[host],
+                sys.executable,
+                '-m',
+                *map(str, words),
+            ]
+            self.started[name] = subprocess.Popen(
+                words, cwd=here, env=ENV, stdout=log, stderr=subprocess.STDOUT
+            )
         return self.started[name]
 
     def scheduler(self):
-        self.begin('scheduler', 0, 'distributed.cli.dask_scheduler', '--host', '198.18.1.1', '--port', 8786, '--no-dashboard')
+        self.begin(
+            'scheduler',
+            0,
+            'distributed.cli.dask_scheduler',
+            '--host',
+            '198.18.1.1',
+            '--port',
+            8786,
+            '--no-dashboard',
+        )
 
     def worker(self, host):
         self.begin(
@@ -119,7 +153,17 @@ def until_rows(run, file, count):
 
 
 def audit(site, jsonl, certs):
-    return ['nonobench.audit', site, '--allow', '10000', '--quiet', '--jsonl', jsonl, '--certify', certs]
+    return [
+        'nonobench.audit',
+        site,
+        '--allow',
+        '10000',
+        '--quiet',
+        '--jsonl',
+        jsonl,
+        '--certify',
+        certs,
+    ]
 
 
 def main(pictures=3000):
@@ -131,15 +175,23 @@ def main(pictures=3000):
     with tempfile.TemporaryDirectory() as work:
         folder = Path(work)
         site, here, there = folder / 'site', folder / 'here', folder / 'there'
-        subprocess.run([sys.executable, ROOT / 'measure' / 'audit.py', 'draw', site, str(pictures)], env=ENV, check=True)
-        subprocess.run([sys.executable, '-m', *audit(site, here, folder / 'certs')], env=ENV, check=False)
+        subprocess.run(
+            [sys.executable, ROOT / 'measure' / 'audit.py', 'draw', site, str(pictures)],
+            env=ENV,
+            check=True,
+        )
+        subprocess.run(
+            [sys.executable, '-m', *audit(site, here, folder / 'certs')], env=ENV, check=False
+        )
         say(f'one machine: {rows(here)} rows')
         with Network(folder) as network:
             network.scheduler()
             network.worker(1)
             network.worker(2)
             began = time.monotonic()
-            run = network.begin('run', 0, *audit(site, there, folder / 'more'), '--scheduler', SCHEDULER)
+            run = network.begin(
+                'run', 0, *audit(site, there, folder / 'more'), '--scheduler', SCHEDULER
+            )
             until_rows(run, there, pictures // 6)
             network.cut_off(2)
             say(f'host 2 is cut off after {rows(there)} rows')
@@ -148,10 +200,15 @@ def main(pictures=3000):
             network.started['worker1'].kill()
             say(f'the worker of host 1 is killed after {rows(there)} rows')
             status = run.wait()
-        say(f'three hosts, of which one joined late: {rows(there)} rows, status {status}, {time.monotonic() - began:.0f} s')
+        say(
+            f'three hosts, of which one joined late: {rows(there)} rows, status {status}, {time.monotonic() - began:.0f} s'
+        )
         if (
             here.read_bytes() == there.read_bytes()
-            and subprocess.run(['diff', '-r', folder / 'certs', folder / 'more'], check=False).returncode == 0
+            and subprocess.run(
+                ['diff', '-r', folder / 'certs', folder / 'more'], check=False
+            ).returncode
+            == 0
         ):
             say('the same bytes')
             return 0

@@ -1,12 +1,13 @@
-// The two sides that compare.mjs compares: the native program, and the module in node. Each has a call
-// `answer`, which gives {out, said, status}: what is written, what is said on standard error, and the status. It is asked
-// {call: 'work', file, lines, options}, {call: 'check', file, certificate, givens, options}, where there may be no givens,
-// {call: 'prove', file, options} or {call: 'clues', file, options}, as bytes.
-import { spawnSync } from 'node:child_process';
-import { closeSync, mkdtempSync, openSync, readFileSync, rmSync, writeFileSync } from 'node:fs';
-import { tmpdir } from 'node:os';
-import { join } from 'node:path';
-import { load } from '../../web/nonobench.mjs';
+// The two sides that compare.mjs compares: the native program, and the module in node. Each has a
+// call `answer`, which gives {out, said, status}: what is written, what is said on standard error,
+// and the status. It is asked {call: 'work', file, lines, options}, {call: 'check', file,
+// certificate, givens, options}, where there may be no givens, {call: 'prove', file, options}
+// or {call: 'clues', file, options}, as bytes.
+import {spawnSync} from 'node:child_process';
+import {closeSync, mkdtempSync, openSync, readFileSync, rmSync, writeFileSync} from 'node:fs';
+import {tmpdir} from 'node:os';
+import {join} from 'node:path';
+import {load} from '../../web/nonobench.mjs';
 
 /** The native program, with its files in a folder of its own. */
 export class Program {
@@ -21,8 +22,8 @@ export class Program {
     return path;
   }
 
-  answer({ call, file, lines, certificate, givens, options }) {
-    const { format, background, history } = options;
+  answer({call, file, lines, certificate, givens, options}) {
+    const {format, background, history} = options;
     if (call === 'clues') return this.#ran([], file);
     const words = [call, this.#kept('file', file)];
     if (certificate !== undefined) words.push(this.#kept('certificate', certificate));
@@ -36,30 +37,30 @@ export class Program {
   // Its input is a file, since a program that refuses its words reads none of it.
   #ran(words, input) {
     const given = openSync(this.#kept('input', input));
-    const run = spawnSync(this.path, words, { stdio: [given, 'pipe', 'pipe'], maxBuffer: 1 << 30 });
+    const run = spawnSync(this.path, words, {stdio: [given, 'pipe', 'pipe'], maxBuffer: 1 << 30});
     closeSync(given);
     if (run.error) throw run.error;
-    return { out: run.stdout.toString(), said: run.stderr.toString(), status: run.status };
+    return {out: run.stdout.toString(), said: run.stderr.toString(), status: run.status};
   }
 
   end() {
-    rmSync(this.folder, { recursive: true, force: true });
+    rmSync(this.folder, {recursive: true, force: true});
   }
 }
 
 // What an engine answers, as the program would.
-function answerOf(engine, { call, file, lines, certificate, givens = 'any', options }) {
-  const answered = (out) => ({ out, said: '', status: 0 });
-  const refused = (text, status) => ({ out: '', said: `nonobench: ${text}\n`, status });
+function answerOf(engine, {call, file, lines, certificate, givens = 'any', options}) {
+  const answered = (out) => ({out, said: '', status: 0});
+  const refused = (text, status) => ({out: '', said: `nonobench: ${text}\n`, status});
   try {
     if (call === 'clues') return answered(engine.clues(file, options));
     if (call === 'check') {
-      const { accepted, text, status } = engine.check(file, certificate, { ...options, givens });
+      const {accepted, text, status} = engine.check(file, certificate, {...options, givens});
       return accepted ? answered(text) : refused(text, status);
     }
     if (call === 'prove') {
-      const { ruling, certificate: made } = engine.prove(file, options);
-      return made === null ? { ...answered(`${ruling}\n`), status: 1 } : answered(made);
+      const {ruling, certificate: made} = engine.prove(file, options);
+      return made === null ? {...answered(`${ruling}\n`), status: 1} : answered(made);
     }
     const bench = engine.open(file, options);
     try {

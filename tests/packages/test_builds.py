@@ -41,7 +41,9 @@ class Checkout:
         (folder / 'kit' / 'rlibs').mkdir(parents=True)
         for name, place in (('rt', folder / 'bin'), ('rattle', folder / 'kit' / 'bin')):
             place.mkdir()
-            (place / name).write_text(TOOLCHAIN.format(kit=folder / 'kit', name=name, status=self.status))
+            (place / name).write_text(
+                TOOLCHAIN.format(kit=folder / 'kit', name=name, status=self.status)
+            )
             (place / name).chmod(0o755)
 
     def left(self):
@@ -88,7 +90,9 @@ def test_nothing_is_to_be_taken(checkout):
 def test_as_many_jobs_as_are_named(checkout):
     checkout.left()
     said = checkout.run(0, JOBS='3')[0]
-    assert any('--jobs 3 ' in line for line in said.splitlines() if line.startswith('called rattle '))
+    assert any(
+        '--jobs 3 ' in line for line in said.splitlines() if line.startswith('called rattle ')
+    )
 
 
 def test_a_newer_source(checkout):
@@ -107,10 +111,13 @@ COMPILER = 'mkdir "$TMPDIR/a" && printf one >"$TMPDIR/a/module.bc" && sleep 1 &&
 
 
 @pytest.mark.parametrize(
-    ('command', 'status', 'kept'), [((COMPILER, '0'), 0, 'onetwo'), ((COMPILER, '3'), 3, None), (('exit 0', '0'), 1, None)]
+    ('command', 'status', 'kept'),
+    [((COMPILER, '0'), 0, 'onetwo'), ((COMPILER, '3'), 3, None), (('exit 0', '0'), 1, None)],
 )
 def test_a_module_is_kept(command, status, kept, tmp_path):
     """It is whole although its compiler removes it; without one, or of a compiler that fails, nothing is kept."""
-    run = subprocess.run([ROOT / 'web' / 'keep', 'kept.bc', 'sh', '-c', *command], cwd=tmp_path, check=False)
+    run = subprocess.run(
+        [ROOT / 'web' / 'keep', 'kept.bc', 'sh', '-c', *command], cwd=tmp_path, check=False
+    )
     assert run.returncode == status
     assert [file.read_text() for file in tmp_path.iterdir()] == ([kept] if kept else [])

@@ -12,7 +12,9 @@ COMPILE = ('cc', '-std=c11', '-Wall', '-Wextra', '-Werror', '-O1', '-g', f'-I{RO
 TRIED = [f'-DTRIED="{os.environ["TRIED"]}"'] if 'TRIED' in os.environ else []
 CROSS = 'P3\n2 2\n1\n0 0 0 1 1 1\n1 1 1 0 0 0\n'
 # Certificates with lemmas (tests/cases/published.case).
-DIAGONAL_LEMMAS = 'nonolemma 1\npart 1 1 a\nline r 1\ndead c 2\nline r 1\nline c 1\nline r 2\ndone\n'
+DIAGONAL_LEMMAS = (
+    'nonolemma 1\npart 1 1 a\nline r 1\ndead c 2\nline r 1\nline c 1\nline r 2\ndone\n'
+)
 GIVEN_LEMMAS = 'nonolemma 1\ngiven 1 1\nline r 1\nline c 1\nline r 2\ndone\n'
 ALL_GIVEN = 'given 1 1\ngiven 1 2\ngiven 2 1\ngiven 2 2\ndone\n'
 MEBIBYTE = 1 << 20
@@ -20,7 +22,10 @@ USAGE = 'usage: example PICTURE CERTIFICATE [ROW,COLUMN ..]'
 # By hand, as in tests/cases/fit.txt: the first has one solution, the second with its given, and the third has a given too many.
 DIAGONAL = (0, 'unique\nsize 2 2\ncolours 3\ngivens 0\nopen 0\ngrade easy 1 4 3 0 0\nfit')
 GIVEN = (0, 'unique\nsize 2 2\ncolours 2\ngivens 1\nopen 0\ngrade easy 1 4 2 0 0\nfit')
-SPARE = (1, 'unique\nsize 2 2\ncolours 2\ngivens 2\nopen 0\ngrade easy 1 2 1 0 0\nflaw spare 2 2\nunfit')
+SPARE = (
+    1,
+    'unique\nsize 2 2\ncolours 2\ngivens 2\nopen 0\ngrade easy 1 2 1 0 0\nflaw spare 2 2\nunfit',
+)
 
 
 def refused(why):
@@ -54,7 +59,13 @@ def test_c(test_program):
 def test_checker(library, kind, tmp_path):
     needs('cc')
     checker = needs_file(library.with_name(f'libnonocheck.{kind}'), 'c/build')
-    words = [ROOT / 'c' / 'check_test.c', checker, f'-Wl,-rpath,{checker.parent}', '-o', tmp_path / 'check_test']
+    words = [
+        ROOT / 'c' / 'check_test.c',
+        checker,
+        f'-Wl,-rpath,{checker.parent}',
+        '-o',
+        tmp_path / 'check_test',
+    ]
     passes([*COMPILE, *TRIED, *words])
     passes([tmp_path / 'check_test', CASES])
 
@@ -62,7 +73,9 @@ def test_checker(library, kind, tmp_path):
 @pytest.mark.all
 @pytest.mark.emulator
 @pytest.mark.parametrize(
-    'words', [('-q', '--leak-check=full', '100'), ('-q', '--tool=helgrind', '50')], ids=('memcheck', 'helgrind')
+    'words',
+    [('-q', '--leak-check=full', '100'), ('-q', '--tool=helgrind', '50')],
+    ids=('memcheck', 'helgrind'),
 )
 def test_c_under_valgrind(test_program, words):
     needs('valgrind')
@@ -73,12 +86,26 @@ def test_c_under_valgrind(test_program, words):
 @pytest.mark.parametrize('name', ['nonobench.h', 'nonocheck.h'])
 def test_header_in_cpp(name):
     needs('c++')
-    passes(['c++', '-std=c++11', '-Wall', '-Wextra', '-Werror', '-fsyntax-only', '-x', 'c++', ROOT / 'c' / name])
+    passes(
+        [
+            'c++',
+            '-std=c++11',
+            '-Wall',
+            '-Wextra',
+            '-Werror',
+            '-fsyntax-only',
+            '-x',
+            'c++',
+            ROOT / 'c' / name,
+        ]
+    )
 
 
 def files():
     """The files by their names that are right, wrong and long."""
-    diagonal, cert = (EXAMPLES / 'diagonal.ppm').read_text(), (EXAMPLES / 'diagonal.cert').read_text()
+    diagonal, cert = (EXAMPLES / 'diagonal.ppm').read_text(), (
+        EXAMPLES / 'diagonal.cert'
+    ).read_text()
     blank = diagonal + ' ' * MEBIBYTE
     most = diagonal + ' ' * (16 * MEBIBYTE - len(diagonal))
     return {
@@ -116,7 +143,9 @@ CALLS = {
     'given.ppm diagonal.lemmas': refused('certificate NotDead at line 4'),
     'diagonal.ppm cut.cert': refused('certificate NotCert at line 1'),
     'blank.ppm diagonal.cert': DIAGONAL,
-    'more.ppm diagonal.cert': refused(f'ppm TrailingToken at byte {len((EXAMPLES / "diagonal.ppm").read_bytes()) + MEBIBYTE}'),
+    'more.ppm diagonal.cert': refused(
+        f'ppm TrailingToken at byte {len((EXAMPLES / "diagonal.ppm").read_bytes()) + MEBIBYTE}'
+    ),
     'diagonal.ppm more.cert': refused('certificate BadLine at line 10'),
     'most.ppm diagonal.cert': DIAGONAL,
     'longer.ppm diagonal.cert': refused('input too long'),
@@ -124,7 +153,20 @@ CALLS = {
     'none.ppm diagonal.cert': (3, 'example: none.ppm: No such file or directory'),
     'diagonal.ppm none.cert': (3, 'example: none.cert: No such file or directory'),
     'hostile.so diagonal.cert': (3, 'example: hostile.so: Is a directory'),
-    **{f'given.ppm given.cert {place}': (2, USAGE) for place in ('1', '1,', '1,1x', 'x,1', '1,-', '4294967297,1', '-4294967295,1', '+1,1', '0,1')},
+    **{
+        f'given.ppm given.cert {place}': (2, USAGE)
+        for place in (
+            '1',
+            '1,',
+            '1,1x',
+            'x,1',
+            '1,-',
+            '4294967297,1',
+            '-4294967295,1',
+            '+1,1',
+            '0,1',
+        )
+    },
     'given.ppm': (2, USAGE),
 }
 
@@ -138,7 +180,11 @@ def test_example(archive, tmp_path):
     here = tmp_path / 'here'
     for name in ('hostile.so', 'libc.so.6'):
         (here / name).mkdir(parents=True)
-    for name, text in {**files(), 'libnonobench.so': 'no library\n', 'nonobench.h': 'no library\n'}.items():
+    for name, text in {
+        **files(),
+        'libnonobench.so': 'no library\n',
+        'nonobench.h': 'no library\n',
+    }.items():
         (here / name).write_text(text)
     for words, (status, line) in CALLS.items():
         run = ended([example, *words.split()], cwd=here)
@@ -146,4 +192,9 @@ def test_example(archive, tmp_path):
         assert (run.status, said) == (status, line), words
     with open('/dev/full', 'wb') as full:
         words = [example, 'diagonal.ppm', 'diagonal.cert']
-        assert subprocess.run(words, cwd=here, stdout=full, stderr=subprocess.PIPE, check=False).returncode == 3
+        assert (
+            subprocess.run(
+                words, cwd=here, stdout=full, stderr=subprocess.PIPE, check=False
+            ).returncode
+            == 3
+        )

@@ -57,7 +57,12 @@ class Case:
 
     def lay(self, folder):
         """The files of the puzzle, as an audit and a check of a site find them."""
-        parts = {'ppm': self.picture, 'background': (self.background or '').encode(), 'givens': self.file, 'cert': self.certificate}
+        parts = {
+            'ppm': self.picture,
+            'background': (self.background or '').encode(),
+            'givens': self.file,
+            'cert': self.certificate,
+        }
         for ending, data in parts.items():
             if data:
                 (folder / f'{self.name}.{ending}').write_bytes(data)
@@ -81,7 +86,11 @@ def case_of(block):
     )
 
 
-TABLE = [case for case in map(case_of, (CASES / 'fit.txt').read_text(encoding='utf-8').split('\n\n')) if case]
+TABLE = [
+    case
+    for case in map(case_of, (CASES / 'fit.txt').read_text(encoding='utf-8').split('\n\n'))
+    if case
+]
 BY_CERTIFICATE = [case for case in TABLE if case.certificate is not None]
 FLAWS = {flaw.split(' ')[0] for case in TABLE for flaw in case.flaws}
 
@@ -89,7 +98,9 @@ FLAWS = {flaw.split(' ')[0] for case in TABLE for flaw in case.flaws}
 def test_the_table():
     """It has each flaw, with and without certificates, and no name twice."""
     assert FLAWS == {'blank', 'background', 'given', 'spare', 'alike'}
-    assert {'blank', 'background', 'spare', 'alike'} <= {flaw.split(' ')[0] for case in BY_CERTIFICATE for flaw in case.flaws}
+    assert {'blank', 'background', 'spare', 'alike'} <= {
+        flaw.split(' ')[0] for case in BY_CERTIFICATE for flaw in case.flaws
+    }
     assert len({case.name for case in TABLE}) == len(TABLE) > 25
 
 
@@ -135,15 +146,21 @@ def test_any_given(library):
 
     for case in BY_CERTIFICATE:
         if case.lines[0] != f'{REFUSED}certificate NotDone at line 6':
-            said = nonobench.assess(case.picture, case.certificate, case.triple, nonobench.ANY_GIVEN)
+            said = nonobench.assess(
+                case.picture, case.certificate, case.triple, nonobench.ANY_GIVEN
+            )
             assert said.givens == len(said.named) == case.certificate.count(b'given '), case.name
             assert not [flaw for flaw in said.flaws if flaw.kind == 'spare'], case.name
     with pytest.raises(nonobench.CertificateFault, match='^certificate Place at line 2$'):
-        nonobench.assess(TABLE[0].picture, b'nonocert 2\ngiven 9 9\ndone\n', published=nonobench.ANY_GIVEN)
+        nonobench.assess(
+            TABLE[0].picture, b'nonocert 2\ngiven 9 9\ndone\n', published=nonobench.ANY_GIVEN
+        )
     with pytest.raises(nonobench.GivensFault, match='^givens Place at line 1$'):
         nonobench.assess(TABLE[0].picture, published=[(9, 9)])
     with pytest.raises(nonobench.UnpublishedGiven) as caught:
-        nonobench.assess(*next((case.picture, case.certificate) for case in TABLE if 'unpublished' in case.name))
+        nonobench.assess(
+            *next((case.picture, case.certificate) for case in TABLE if 'unpublished' in case.name)
+        )
     assert caught.value.givens == ((1, 1),)
 
 
@@ -158,7 +175,11 @@ def test_an_allowance(library):
     with pytest.raises(ValueError, match='background goes with a P3 text'):
         nonobench.assess(b'', background=(0, 0, 0), non=True)
     said = nonobench.assess(picture, allowance=0)
-    assert (said.verdict.ruling, said.is_fit, said.grade) == (nonobench.Ruling.UNDECIDED, False, None)
+    assert (said.verdict.ruling, said.is_fit, said.grade) == (
+        nonobench.Ruling.UNDECIDED,
+        False,
+        None,
+    )
     said = nonobench.assess(picture, published=[(2, 2)], allowance=0)
     assert (said.is_fit, said.flaws, said.unknown) == (True, (), (2, 2))
 
@@ -184,17 +205,28 @@ def graded(words):
     import nonobench
 
     rows, given, _, _, certificate = GRADE.fullmatch(words).groups()
-    triples = {'.': (255, 255, 255), **{letter: (15 * at, 255 - 15 * at, 0) for at, letter in enumerate('abcdefghijklmno')}}
+    triples = {
+        '.': (255, 255, 255),
+        **{letter: (15 * at, 255 - 15 * at, 0) for at, letter in enumerate('abcdefghijklmno')},
+    }
     cells = [triples[letter] for row in rows.split('/') for letter in row]
     picture = nonobench.picture_of(len(rows.split('/')[0]), len(rows.split('/')), cells)
     # Colours are numbered as they first appear, and the branches of a split are in that order.
-    assert not certificate or [*dict.fromkeys(rows.replace('/', '').replace('.', ''))] == sorted({*rows} - {'/', '.'}), rows
+    assert not certificate or [*dict.fromkeys(rows.replace('/', '').replace('.', ''))] == sorted(
+        {*rows} - {'/', '.'}
+    ), rows
     held = certificate and certificate.replace('\\n', '\n').encode()
-    said = nonobench.assess(picture, held, published=[tuple(map(int, word.split(','))) for word in (given or '').split()])
+    said = nonobench.assess(
+        picture,
+        held,
+        published=[tuple(map(int, word.split(','))) for word in (given or '').split()],
+    )
     if said.grade is None:
         return f'no grade: {said.verdict.ruling.value}'
     word, rounds, evaluations, wait, splits, depth = said.grade
-    front = f'{word.replace("-", " ")}: rounds {rounds}, evaluations {evaluations}, longest wait {wait}'
+    front = (
+        f'{word.replace("-", " ")}: rounds {rounds}, evaluations {evaluations}, longest wait {wait}'
+    )
     return f'{front}, open {said.open}, splits {splits}, depth {depth}' if said.open else front
 
 
@@ -217,7 +249,9 @@ def test_colours_alike(library):
         pair = [tuple(map(int, word.split(','))) for word in (one, other)]
         for first, second in (pair, pair[::-1]) if one != other else ():
             said = nonobench.assess(nonobench.picture_of(2, 1, [first, second]), background=first)
-            assert said.flaws == ((nonobench.Flaw('alike', None, ('.', 'a')),) if wanted == 'near' else ()), line
+            assert said.flaws == (
+                (nonobench.Flaw('alike', None, ('.', 'a')),) if wanted == 'near' else ()
+            ), line
 
 
 @pytest.mark.compiler
@@ -227,13 +261,40 @@ def test_c(library, words, tmp_path):
     needs('cc')
     archive = needs_file(library.with_suffix('.a'), 'c/build')
     program = tmp_path / 'assess'
-    passes(['cc', '-std=c11', '-Wall', '-Wextra', '-Werror', '-O1', *words, f'-I{ROOT}/c', ROOT / 'tests/packages/assess.c', archive, '-o', program])
+    passes(
+        [
+            'cc',
+            '-std=c11',
+            '-Wall',
+            '-Wextra',
+            '-Werror',
+            '-O1',
+            *words,
+            f'-I{ROOT}/c',
+            ROOT / 'tests/packages/assess.c',
+            archive,
+            '-o',
+            program,
+        ]
+    )
     for case in TABLE:
         case.lay(tmp_path)
         file = tmp_path / case.name
         cert = '-' if case.certificate is None else file.with_suffix('.cert')
-        run = ended([program, file.with_suffix('.ppm'), cert, case.background or '-', *(f'{row},{column}' for row, column in case.givens)])
-        wanted = [line for line in case.lines if case.lines[0] != 'ambiguous' or not set(line) <= set('.a')]
+        run = ended(
+            [
+                program,
+                file.with_suffix('.ppm'),
+                cert,
+                case.background or '-',
+                *(f'{row},{column}' for row, column in case.givens),
+            ]
+        )
+        wanted = [
+            line
+            for line in case.lines
+            if case.lines[0] != 'ambiguous' or not set(line) <= set('.a')
+        ]
         assert run.wrote.decode().splitlines() == wanted, (case.name, run)
 
 
@@ -249,12 +310,30 @@ def test_program(kept, tmp_path):
         }
         words = [word for option, value in beside.items() if value for word in (option, value)]
         run = ended([kept.program('nonobench'), 'assess', file.with_suffix('.ppm'), *words])
-        assert (run.status, run.wrote.decode(), run.said) == (0 if case.is_fit else 1, case.answer, b''), case.name
+        assert (run.status, run.wrote.decode(), run.said) == (
+            0 if case.is_fit else 1,
+            case.answer,
+            b'',
+        ), case.name
 
 
 def audited(folder, *words):
     """The rows of an audit by their names, and its status."""
-    run = ended([sys.executable, '-m', 'nonobench.audit', 'site', *BOUNDS, '--quiet', '--jsonl', 'rows', *words], cwd=folder, env=ENV)
+    run = ended(
+        [
+            sys.executable,
+            '-m',
+            'nonobench.audit',
+            'site',
+            *BOUNDS,
+            '--quiet',
+            '--jsonl',
+            'rows',
+            *words,
+        ],
+        cwd=folder,
+        env=ENV,
+    )
     rows = map(json.loads, (folder / 'rows').read_text().splitlines())
     return {row['file'].removeprefix('site/').removesuffix('.ppm'): row for row in rows}, run.status
 
@@ -267,7 +346,9 @@ def row_lines(row):
     yield f'givens {len(row.get("givens", ()))}'
     yield f'open {row["open"]}'
     if 'grade' in row:
-        yield ' '.join(['grade', row['grade'].replace(' ', '-'), *map(str, row['figures'].values())])
+        yield ' '.join(
+            ['grade', row['grade'].replace(' ', '-'), *map(str, row['figures'].values())]
+        )
     yield from (f'flaw {flaw}' for flaw in row.get('flaws', ()))
     yield 'fit' if row['fit'] else 'unfit'
 
@@ -284,8 +365,18 @@ def test_audit(library, tmp_path):
         row = rows.pop(case.name)
         assert row.get('certificate', {}).get('why') == case.refusal, case.name
         if case.refusal is None:
-            assert list(row_lines(row)) == [line for line in case.lines if not line.startswith('colours ')], case.name
-            assert row['background'] == row['palette'][0] == ('ffffff' if case.triple in (None, (65535,) * 3) else '%02x%02x%02x' % case.triple)
+            assert list(row_lines(row)) == [
+                line for line in case.lines if not line.startswith('colours ')
+            ], case.name
+            assert (
+                row['background']
+                == row['palette'][0]
+                == (
+                    'ffffff'
+                    if case.triple in (None, (65535,) * 3)
+                    else '%02x%02x%02x' % case.triple
+                )
+            )
     assert rows == {}
 
 
@@ -295,7 +386,11 @@ def test_audit_allows(library, kind, tmp_path):
     site = tmp_path / 'site'
     site.mkdir()
     allowed = FLAWS if kind == 'any' else {'given', 'spare'} if kind == 'given' else {kind}
-    chosen = [case for case in TABLE if case.lines[0] == 'unique' and {flaw.split(' ')[0] for flaw in case.flaws} <= allowed]
+    chosen = [
+        case
+        for case in TABLE
+        if case.lines[0] == 'unique' and {flaw.split(' ')[0] for flaw in case.flaws} <= allowed
+    ]
     assert not all(case.is_fit for case in chosen)
     for case in chosen:
         case.lay(site)
@@ -304,21 +399,36 @@ def test_audit_allows(library, kind, tmp_path):
 
 def checked(folder, *words):
     """The lines of nonobench-check-site, and its status."""
-    run = ended([sys.executable, '-m', 'nonobench.check_site', folder, '--quiet', *BOUNDS, *words], cwd=folder, env=ENV)
+    run = ended(
+        [sys.executable, '-m', 'nonobench.check_site', folder, '--quiet', *BOUNDS, *words],
+        cwd=folder,
+        env=ENV,
+    )
     return dict(line.split('.cert: ') for line in run.wrote.decode().splitlines()), run.status
 
 
 def test_check_site(library, tmp_path):
     for case in BY_CERTIFICATE:
         case.lay(tmp_path)
-    wanted = {case.name: case.refusal or '; '.join(f'flaw {flaw}' for flaw in case.flaws) for case in BY_CERTIFICATE if not case.is_fit}
+    wanted = {
+        case.name: case.refusal or '; '.join(f'flaw {flaw}' for flaw in case.flaws)
+        for case in BY_CERTIFICATE
+        if not case.is_fit
+    }
     found, status = checked(tmp_path)
     assert ({name.rpartition('/')[2]: why for name, why in found.items()}, status) == (wanted, 1)
     for case in BY_CERTIFICATE:
         if case.refusal:
             (tmp_path / f'{case.name}.cert').unlink()
     assert checked(tmp_path, '--allow-flaw', 'any') == ({}, 0)
-    assert checked(tmp_path, *(word for kind in ('blank', 'background', 'given', 'alike') for word in ('--allow-flaw', kind))) == ({}, 0)
+    assert checked(
+        tmp_path,
+        *(
+            word
+            for kind in ('blank', 'background', 'given', 'alike')
+            for word in ('--allow-flaw', kind)
+        ),
+    ) == ({}, 0)
     left, status = checked(tmp_path, '--allow-flaw', 'given', '--allow-flaw', 'alike')
     assert (status, {why for why in left.values()}) == (1, {'flaw background', 'flaw blank'})
 
@@ -331,11 +441,18 @@ def test_site(library, tmp_path):
     spec.loader.exec_module(app)
     tried = 0
     for case in BY_CERTIFICATE:
-        is_published = case.refusal != 'certificate UnpublishedGiven at line 2' and len(case.givens) == case.certificate.count(b'given ')
+        is_published = case.refusal != 'certificate UnpublishedGiven at line 2' and len(
+            case.givens
+        ) == case.certificate.count(b'given ')
         if case.background is not None or not is_published:
             continue
-        client = app.create_app(DATABASE=str(tmp_path / f'{case.name}.sqlite'), SECONDS=300.0).test_client()
-        files = {'picture': (io.BytesIO(case.picture), 'a'), 'certificate': (io.BytesIO(case.certificate), 'b')}
+        client = app.create_app(
+            DATABASE=str(tmp_path / f'{case.name}.sqlite'), SECONDS=300.0
+        ).test_client()
+        files = {
+            'picture': (io.BytesIO(case.picture), 'a'),
+            'certificate': (io.BytesIO(case.certificate), 'b'),
+        }
         answer = client.post('/puzzles', data=files, content_type='multipart/form-data')
         assert answer.status_code == (303 if case.is_fit else 422), (case.name, answer.data)
         tried += 1

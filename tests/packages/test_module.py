@@ -37,7 +37,14 @@ def test_built_again_it_has_the_same_bytes(bitcode, module, tmp_path):
 @pytest.mark.toolchain
 def test_calls_and_statuses(bitcode, kit, tmp_path):
     text = tmp_path / 'module.ll'
-    clang = [kit / 'toolchain' / 'bin' / 'clang', '--no-default-config', '-Xclang', '-disable-llvm-passes', '-S', '-emit-llvm']
+    clang = [
+        kit / 'toolchain' / 'bin' / 'clang',
+        '--no-default-config',
+        '-Xclang',
+        '-disable-llvm-passes',
+        '-S',
+        '-emit-llvm',
+    ]
     passes([*clang, '-x', 'ir', bitcode, '-o', text])
     passes([sys.executable, ROOT / '.ci' / 'abi.py', text])
 
@@ -48,7 +55,11 @@ def test_calls_and_statuses_of_the_sources():
 
 @pytest.mark.toolchain
 def test_what_makes_it_narrow(request, kit):
-    node_tests(request, ROOT / 'web' / 'narrow_test.mjs', {'CLANG': str(kit / 'toolchain' / 'bin' / 'clang')})
+    node_tests(
+        request,
+        ROOT / 'web' / 'narrow_test.mjs',
+        {'CLANG': str(kit / 'toolchain' / 'bin' / 'clang')},
+    )
 
 
 def test_in_node(request, module):
@@ -56,20 +67,29 @@ def test_in_node(request, module):
 
 
 def test_checker_in_node(request, module):
-    node_tests(request, ROOT / 'web' / 'check_test.mjs', {'WASM': str(module), 'CHECK': str(module.parent)})
+    node_tests(
+        request, ROOT / 'web' / 'check_test.mjs', {'WASM': str(module), 'CHECK': str(module.parent)}
+    )
 
 
 @pytest.mark.all
 def test_badge_in_a_browser(module, tmp_path):
     """examples/badge.html on a server: of its three puzzles the last names a given that is not published."""
-    for file in (EXAMPLES / 'badge.html', *EXAMPLES.glob('*.ppm'), *EXAMPLES.glob('*.cert'), *EXAMPLES.glob('*.givens')):
+    for file in (
+        EXAMPLES / 'badge.html',
+        *EXAMPLES.glob('*.ppm'),
+        *EXAMPLES.glob('*.cert'),
+        *EXAMPLES.glob('*.givens'),
+    ):
         shutil.copy(file, tmp_path)
     for kind in ('wasm', 'mjs'):
         shutil.copy(module.with_name(f'nonobench-check.{kind}'), tmp_path)
     handler = functools.partial(http.server.SimpleHTTPRequestHandler, directory=tmp_path)
     with http.server.ThreadingHTTPServer(('127.0.0.1', 0), handler) as server:
         threading.Thread(target=server.serve_forever, daemon=True).start()
-        shown = dumped(f'http://127.0.0.1:{server.server_port}/badge.html', tmp_path / 'home', ended)
+        shown = dumped(
+            f'http://127.0.0.1:{server.server_port}/badge.html', tmp_path / 'home', ended
+        )
         server.shutdown()
     right = 'one solution, checked in your browser'
     wanted = [right, right, 'not proved: certificate UnpublishedGiven at line 2']
@@ -79,7 +99,19 @@ def test_badge_in_a_browser(module, tmp_path):
 @pytest.mark.compiler
 def test_heap(tmp_path):
     needs('cc')
-    passes(['cc', '-std=c11', '-O1', '-Wall', '-Wextra', '-Werror', ROOT / 'web' / 'heap_test.c', '-o', tmp_path / 'heap_test'])
+    passes(
+        [
+            'cc',
+            '-std=c11',
+            '-O1',
+            '-Wall',
+            '-Wextra',
+            '-Werror',
+            ROOT / 'web' / 'heap_test.c',
+            '-o',
+            tmp_path / 'heap_test',
+        ]
+    )
     passes([tmp_path / 'heap_test'])
 
 
@@ -95,7 +127,9 @@ def test_rates_beside_those_of_the_library(module, library, tmp_path, monkeypatc
     monkeypatch.setattr(rates, 'ROUNDS', 8)
     most = [0.0] * 3
     for _ in range(5):
-        parts = [one / other for one, other in zip(rates.of_javascript(tmp_path), rates.of_python(pairs))]
+        parts = [
+            one / other for one, other in zip(rates.of_javascript(tmp_path), rates.of_python(pairs))
+        ]
         most = [max(pair) for pair in zip(most, parts)]
         if min(most) > 0.4:
             return
@@ -105,4 +139,7 @@ def test_rates_beside_those_of_the_library(module, library, tmp_path, monkeypatc
 @pytest.mark.all
 def test_beside_the_program(kept, module):
     needs('node')
-    passes(['node', ROOT / 'tests' / 'packages' / 'compare.mjs', '1000'], env={'NONOBENCH': str(kept.program('nonobench')), 'WASM': str(module)})
+    passes(
+        ['node', ROOT / 'tests' / 'packages' / 'compare.mjs', '1000'],
+        env={'NONOBENCH': str(kept.program('nonobench')), 'WASM': str(module)},
+    )

@@ -12,7 +12,20 @@ import subprocess
 import sys
 
 import pytest
-from tried import EXAMPLES, ROOT, VERSION, clean, dumped, ended, engine_now, named, needs, node_tests, passes, version_of
+from tried import (
+    EXAMPLES,
+    ROOT,
+    VERSION,
+    clean,
+    dumped,
+    ended,
+    engine_now,
+    named,
+    needs,
+    node_tests,
+    passes,
+    version_of,
+)
 
 pytestmark = pytest.mark.all
 TRIALS = ROOT / 'tests' / 'packages' / 'trials'
@@ -37,10 +50,14 @@ def pairs(kept, tmp_path_factory):
         shutil.copy(EXAMPLES / f'{picture}.ppm', folder / f'{name}.ppm')
     for name in ('good', 'bad'):
         shutil.copy(EXAMPLES / 'diagonal.cert', folder / f'{name}.cert')
-    (folder / 'all.cert').write_text('nonocert 2\ngiven 1 1\ngiven 1 2\ngiven 2 1\ngiven 2 2\ndone\n')
+    (folder / 'all.cert').write_text(
+        'nonocert 2\ngiven 1 1\ngiven 1 2\ngiven 2 1\ngiven 2 2\ndone\n'
+    )
     run = ended([kept.program('nonobench'), 'check', folder / 'bad.ppm', folder / 'bad.cert'])
     assert run.status == 1
-    return {name: [folder / f'{name}.ppm', folder / f'{name}.cert'] for name in ('good', 'bad', 'all')}, run.said.decode().strip()
+    return {
+        name: [folder / f'{name}.ppm', folder / f'{name}.cert'] for name in ('good', 'bad', 'all')
+    }, run.said.decode().strip()
 
 
 def prints(status, wanted, words, **more):
@@ -62,7 +79,9 @@ def try_program(words, pairs, version):
     prints(0, 'certificate accepted, givens 4', [*words, 'check', *files['all']])
 
 
-def try_call(words, pairs, good='certificate accepted', all_given='certificate accepted, givens 4', **more):
+def try_call(
+    words, pairs, good='certificate accepted', all_given='certificate accepted, givens 4', **more
+):
     """Tries a call on the pairs: one whose givens are all cells is refused unless they are published."""
     files, why = pairs
     prints(0, good, [*words, *files['good']], **more)
@@ -85,7 +104,9 @@ def try_scripts(place):
 
 
 def test_no_toolchain_in_clean_folders():
-    assert clean(['sh', '-c', 'command -v rt']).status != 0, 'the toolchain is on the PATH in clean folders too'
+    assert (
+        clean(['sh', '-c', 'command -v rt']).status != 0
+    ), 'the toolchain is on the PATH in clean folders too'
 
 
 @pytest.mark.toolchain
@@ -132,7 +153,9 @@ def test_bytes_of_other_tools_are_not_compared(made, tmp_path):
     assert readme.count('esbuild ') == 1
     (others / 'README.md').write_text(readme.replace('esbuild ', 'esbuild 0.'))
     put_sums(others)
-    assert 'left out, since other tools made them' in passes([ROOT / 'packages' / 'compare', made, others])
+    assert 'left out, since other tools made them' in passes(
+        [ROOT / 'packages' / 'compare', made, others]
+    )
 
 
 def test_dist_is_what_was_made(made, kept):
@@ -166,7 +189,11 @@ def test_links_lead_to_files_of_the_package(made, ending, tmp_path):
         top.mkdir()
         passes([word.format(package) for word in UNPACK[ending]] + [top])
         pages = [*top.rglob('*.md'), *top.rglob('METADATA')]
-        links = [(page, link) for page in pages for link in re.findall(r'\]\((?![a-z]+:)([^)\s]+)\)', page.read_text())]
+        links = [
+            (page, link)
+            for page in pages
+            for link in re.findall(r'\]\((?![a-z]+:)([^)\s]+)\)', page.read_text())
+        ]
         assert links
         for page, link in links:
             file = (page.parent / link.split('#')[0]).resolve() if link[0] != '#' else page
@@ -181,7 +208,12 @@ def test_npm(npm, pairs, version):
     try_program(words, pairs, version)
     files, _ = pairs
     if shutil.which('npx'):
-        prints(0, 'certificate accepted', ['npx', '--offline', 'nonobench', 'check', *files['good']], cwd=npm)
+        prints(
+            0,
+            'certificate accepted',
+            ['npx', '--offline', 'nonobench', 'check', *files['good']],
+            cwd=npm,
+        )
 
 
 def test_npm_upload(npm, pairs):
@@ -200,7 +232,11 @@ def test_npm_example(npm, pairs):
     shutil.copy(EXAMPLES / 'check_upload.mjs', npm)
     files, _ = pairs
     prints(0, DIAGONAL, ['node', npm / 'check_upload.mjs', *files['good']])
-    prints(1, 'refused: certificate UnpublishedGiven at line 2', ['node', npm / 'check_upload.mjs', *files['all']])
+    prints(
+        1,
+        'refused: certificate UnpublishedGiven at line 2',
+        ['node', npm / 'check_upload.mjs', *files['all']],
+    )
 
 
 @pytest.mark.parametrize('text', ['import', None])
@@ -234,7 +270,10 @@ def test_npm_types(npm):
 
 
 def test_npm_in_node(request, kept, npm):
-    env = {'PACKAGE': str(npm / 'node_modules' / 'nonobench'), 'NONOBENCH': str(kept.program('nonobench'))}
+    env = {
+        'PACKAGE': str(npm / 'node_modules' / 'nonobench'),
+        'NONOBENCH': str(kept.program('nonobench')),
+    }
     node_tests(request, ROOT / 'packages' / 'npm' / 'test.mjs', env)
 
 
@@ -243,7 +282,9 @@ def test_npm_in_node(request, kept, npm):
 
 def test_page_has_the_module_of_the_package(made, npm, tmp_path):
     passes(['node', TRIALS / 'page.mjs', made / 'nonobench.html', tmp_path / 'module.wasm'])
-    assert (tmp_path / 'module.wasm').read_bytes() == (npm / 'node_modules' / 'nonobench' / 'nonobench.wasm').read_bytes()
+    assert (tmp_path / 'module.wasm').read_bytes() == (
+        npm / 'node_modules' / 'nonobench' / 'nonobench.wasm'
+    ).read_bytes()
 
 
 def test_page_begins_in_a_browser(made, tmp_path):
@@ -263,7 +304,10 @@ def test_library_for_c(installed, pairs, version, tmp_path):
     """It is linked both ways."""
     needs('cc', 'pkg-config')
     [example] = installed.glob('share/doc/nonobench/*/example.c')
-    run = clean(['pkg-config', '--cflags', '--libs', f'nonobench = {version}'], PKG_CONFIG_PATH=installed / 'lib' / 'pkgconfig')
+    run = clean(
+        ['pkg-config', '--cflags', '--libs', f'nonobench = {version}'],
+        PKG_CONFIG_PATH=installed / 'lib' / 'pkgconfig',
+    )
     assert run.status == 0, run
     for name, flags in (
         ('shared', [*run.wrote.decode().split(), f'-Wl,-rpath,{installed}/lib']),
@@ -288,12 +332,15 @@ def test_archive_removed(made, tmp_path):
     ):
         run = clean(words)
         assert run.status == 0, run
-    assert [file.relative_to(removed).as_posix() for file in removed.rglob('*') if file.is_file()] == ['bin/mine']
+    assert [
+        file.relative_to(removed).as_posix() for file in removed.rglob('*') if file.is_file()
+    ] == ['bin/mine']
 
 
 def test_install_from_a_checkout(made, pairs, version, tmp_path):
     """The repository's own ./install, where nothing was built: with neither a release nor a toolchain it says so, a release that
-    was changed is not taken, and the one that was made is, also where a toolchain is there (one that would fail)."""
+    was changed is not taken, and the one that was made is, also where a toolchain is there (one that would fail).
+    """
     checkout, name = tmp_path / 'checkout', f'nonobench-{version}-linux-x86_64.tar.gz'
     checkout.mkdir()
     shutil.copy(ROOT / 'install', checkout)
@@ -309,7 +356,9 @@ def test_install_from_a_checkout(made, pairs, version, tmp_path):
     shutil.copy(made / name, checkout / 'dist')
     (tmp_path / 'toolchain').mkdir()
     (tmp_path / 'toolchain' / 'rt').symlink_to('/bin/false')
-    run = clean([checkout / 'install', '--prefix', tmp_path / 'by-install'], before=tmp_path / 'toolchain')
+    run = clean(
+        [checkout / 'install', '--prefix', tmp_path / 'by-install'], before=tmp_path / 'toolchain'
+    )
     assert run.status == 0, run
     try_program([tmp_path / 'by-install' / 'bin' / 'nonobench'], pairs, version)
 
@@ -334,7 +383,9 @@ def test_deb_by_lintian(made, machine):
     """What the missing licence makes is all that lintian may call an error."""
     needs('lintian')
     said = passes(['lintian', '--no-cfg', '--fail-on', 'none', named(made, f'*_{machine}.deb')])
-    assert [line for line in said.splitlines() if line.startswith('E:') and 'copyright' not in line] == []
+    assert [
+        line for line in said.splitlines() if line.startswith('E:') and 'copyright' not in line
+    ] == []
 
 
 # ---- Python
@@ -347,7 +398,14 @@ def environment(made, tmp_path_factory):
     if clean([sys.executable, '-m', 'venv', folder]).status:
         pytest.skip('this Python makes no environment')
     run = clean(
-        [folder / 'bin' / 'pip', 'install', '--quiet', '--no-index', '--disable-pip-version-check', next(made.glob('*_x86_64.whl'))]
+        [
+            folder / 'bin' / 'pip',
+            'install',
+            '--quiet',
+            '--no-index',
+            '--disable-pip-version-check',
+            next(made.glob('*_x86_64.whl')),
+        ]
     )
     assert run.status == 0, run
     return folder
@@ -367,10 +425,14 @@ def test_wheel_types(made, tmp_path):
     needs('mypy')
     passes([sys.executable, '-m', 'zipfile', '-e', next(made.glob('*_x86_64.whl')), tmp_path])
     shutil.copy(TRIALS / 'ask.py', tmp_path)
-    passes(['mypy', '--strict', '--no-incremental', '--cache-dir', '/dev/null', 'ask.py'], cwd=tmp_path)
+    passes(
+        ['mypy', '--strict', '--no-incremental', '--cache-dir', '/dev/null', 'ask.py'], cwd=tmp_path
+    )
 
 
 def test_sizes(made, installed):
-    packed = subprocess.run(['tar', 'c', '-C', made, '.'], stdout=subprocess.PIPE, check=True).stdout
+    packed = subprocess.run(
+        ['tar', 'c', '-C', made, '.'], stdout=subprocess.PIPE, check=True
+    ).stdout
     assert len(gzip.compress(packed, 9)) < MOST_PACKED
     assert (installed / 'bin' / 'nonobench').stat().st_size < MOST_PROGRAM

@@ -15,14 +15,25 @@ print(nonobench.check(*(open(name, "rb").read() for name in sys.argv[1:]), publi
 @pytest.mark.all
 def test_by_pip(library, tmp_path):
     """Installed as python/README.md says, without an index to fetch from, and asked from another folder."""
-    if subprocess.run([sys.executable, '-m', 'venv', tmp_path / 'env'], capture_output=True).returncode:
+    if subprocess.run(
+        [sys.executable, '-m', 'venv', tmp_path / 'env'], capture_output=True
+    ).returncode:
         pytest.skip('this Python makes no environment')
     python = tmp_path / 'env' / 'bin' / 'python'
-    passes([python, '-m', 'pip', 'install', ROOT / 'python'], env={'PIP_NO_INDEX': '1', 'PIP_DISABLE_PIP_VERSION_CHECK': '1'})
-    env = {name: value for name, value in os.environ.items() if name not in ('NONOBENCH_LIBRARY', 'PYTHONPATH')}
+    passes(
+        [python, '-m', 'pip', 'install', ROOT / 'python'],
+        env={'PIP_NO_INDEX': '1', 'PIP_DISABLE_PIP_VERSION_CHECK': '1'},
+    )
+    env = {
+        name: value
+        for name, value in os.environ.items()
+        if name not in ('NONOBENCH_LIBRARY', 'PYTHONPATH')
+    }
     if not (ROOT / 'c' / 'out' / 'libnonobench.so').exists():
         env['NONOBENCH_LIBRARY'] = str(library)
-    run = ended([python, '-c', ASK, EXAMPLES / 'given.ppm', EXAMPLES / 'given.cert'], cwd=tmp_path, env=env)
+    run = ended(
+        [python, '-c', ASK, EXAMPLES / 'given.ppm', EXAMPLES / 'given.cert'], cwd=tmp_path, env=env
+    )
     assert (run.status, run.wrote) == (0, b'(Given(row=1, column=1),)\n'), run
 
 
@@ -35,8 +46,20 @@ def test_report_of_the_examples(library, tmp_path):
     for name, title in (('PIL', 'Pillow'), ('defusedxml', 'defusedxml'), ('jinja2', 'Jinja2')):
         pytest.importorskip(name, reason=f'there is no {title}')
     report, shown = tmp_path / 'audit.html', ROOT / 'docs' / 'audit.html'
-    words = ['--allow', '10000', '--quiet', '--title', 'The examples of nonobench', '--html', report]
-    puzzles = [f'examples/{file.name}' for ending in ('ppm', 'non') for file in sorted(EXAMPLES.glob(f'*.{ending}'))]
+    words = [
+        '--allow',
+        '10000',
+        '--quiet',
+        '--title',
+        'The examples of nonobench',
+        '--html',
+        report,
+    ]
+    puzzles = [
+        f'examples/{file.name}'
+        for ending in ('ppm', 'non')
+        for file in sorted(EXAMPLES.glob(f'*.{ending}'))
+    ]
     run = ended(
         [sys.executable, '-m', 'nonobench.audit', *puzzles, *words],
         cwd=ROOT,

@@ -30,7 +30,9 @@ def copy(tmp_path):
             shutil.copytree(ROOT / name, top / name)
         shutil.copy(ROOT / 'release', top)
         shutil.copy(ROOT / VERSION, top / VERSION)
-        (top / 'CHANGELOG.md').write_text(f'# Changes\n\n## {heading}\n\n{line}\n\n## 0.1.0, 22 November 2026\n')
+        (top / 'CHANGELOG.md').write_text(
+            f'# Changes\n\n## {heading}\n\n{line}\n\n## 0.1.0, 22 November 2026\n'
+        )
         for words in (['init', '-q'], ['add', '-A'], ['commit', '-qm', 'copy']):
             git(top, *words)
         for name in ('user.name', 'user.email'):
@@ -57,7 +59,9 @@ def test_a_version_is_made_and_tagged_once(copy):
     top = copy(DATED, told(DIGEST))
     refused(top, f'{version_of_tree()} is released')
     assert ended([top / 'release', '--tag'], cwd=top).status == 0
-    assert git(top, 'rev-parse', f'v{version_of_tree()}^{{commit}}') == git(top, 'rev-parse', 'HEAD')
+    assert git(top, 'rev-parse', f'v{version_of_tree()}^{{commit}}') == git(
+        top, 'rev-parse', 'HEAD'
+    )
     refused(top, 'already exists', '--tag')
 
 
@@ -73,7 +77,13 @@ def test_another_digest(copy):
 
 def test_nothing_to_compare(copy):
     top = copy(DATED, told(DIGEST))
-    refused(top, 'release: skipped: no rt' if not shutil.which('rt') else 'there is no program of these sources', '--check')
+    refused(
+        top,
+        'release: skipped: no rt'
+        if not shutil.which('rt')
+        else 'there is no program of these sources',
+        '--check',
+    )
 
 
 def test_other_files(copy):

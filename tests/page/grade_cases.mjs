@@ -1,36 +1,47 @@
-// Tests of grades: the cases that Python passes too, as the module tells them. Run: node --test tests/page/grade_cases.mjs
+// Tests of grades: the cases that Python passes too, as the module tells them. Run: node --test
+// tests/page/grade_cases.mjs
 import assert from 'node:assert/strict';
-import { readFileSync } from 'node:fs';
-import { test } from 'node:test';
-import { engine, needsModule } from '../../page/test/worker.mjs';
-import { waits } from '../waits.mjs';
+import {readFileSync} from 'node:fs';
+import {test} from 'node:test';
+import {engine, needsModule} from '../../page/test/worker.mjs';
+import {waits} from '../waits.mjs';
 
 const FORM = /^(\S+)(?: given ([\d, ]+?))?(?: cert (.*))?$/;
-const COLOURS = { '.': '255 255 255', a: '0 0 0', b: '255 0 0', c: '0 0 255' };
+const COLOURS = {
+  '.': '255 255 255',
+  a: '0 0 0',
+  b: '255 0 0',
+  c: '0 0 255'
+};
 
 // The grade in one line, as the cases have it.
-function gradeText({ open, grade: { word, rounds, evaluations, wait, splits, depth } }) {
-    const lines = `${word.replace('-', ' ')}: rounds ${rounds}, evaluations ${evaluations}, longest wait ${wait}`;
-    return open > 0 ? `${lines}, open ${open}, splits ${splits}, depth ${depth}` : lines;
+function gradeText({open, grade: {word, rounds, evaluations, wait, splits, depth}}) {
+  const lines = `${word.replace('-', ' ')}: rounds ${rounds}, evaluations ${
+      evaluations}, longest wait ${wait}`;
+  return open > 0 ? `${lines}, open ${open}, splits ${splits}, depth ${depth}` : lines;
 }
 
 // What is said of a case's puzzle: its grade, or the verdict where it has none.
 function toldOf(module, words) {
-    const [, rows, givens = '', certificate] = FORM.exec(words);
-    const picture = rows.split('/');
-    const text = `P3 ${picture[0].length} ${picture.length} 255\n${[...picture.join('')].map((letter) => COLOURS[letter]).join('\n')}\n`;
-    const places = givens.split(' ').filter(Boolean).map((word) => word.split(',').map(Number));
-    const said = module.assess(text, { givens: places, certificate: certificate?.replaceAll('\\n', '\n') });
-    return said.grade ? gradeText(said) : `no grade: ${said.verdict}`;
+  const [, rows, givens = '', certificate] = FORM.exec(words);
+  const picture = rows.split('/');
+  const text = `P3 ${picture[0].length} ${picture.length} 255\n${
+          [...picture.join('')].map((letter) => COLOURS[letter]).join('\n')}\n`;
+  const places = givens.split(' ').filter(Boolean).map((word) => word.split(',').map(Number));
+  const said =
+      module.assess(text, {givens: places, certificate: certificate?.replaceAll('\\n', '\n')});
+  return said.grade ? gradeText(said) : `no grade: ${said.verdict}`;
 }
 
-const lines = readFileSync(new URL('../cases/grade.case', import.meta.url), 'utf8').split('\n').filter((line) => line && !line.startsWith('#'));
+const lines = readFileSync(
+                  new URL('../cases/grade.case', import.meta.url), 'utf8'
+).split('\n').filter((line) => line && !line.startsWith('#'));
 const skip = needsModule.skip || waits('0.7.0');
-test('grades are those of the cases', { skip }, async () => {
-    const module = await engine();
-    for (const line of lines) {
-        const [words, wanted] = line.split(' => ');
-        assert.equal(toldOf(module, words), wanted, line.slice(0, 60));
-    }
-    assert.ok(lines.length > 20);
+test('grades are those of the cases', {skip}, async () => {
+  const module = await engine();
+  for (const line of lines) {
+    const [words, wanted] = line.split(' => ');
+    assert.equal(toldOf(module, words), wanted, line.slice(0, 60));
+  }
+  assert.ok(lines.length > 20);
 });

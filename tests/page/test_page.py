@@ -10,7 +10,9 @@ from tried import needs, node_tests, passes
 HERE = Path(__file__).parent
 FILES = sorted(file for file in HERE.glob('*.mjs') if 'Run: node --test' in file.read_text())
 # The rooms of trials that page_test.mjs has.
-ROOMS = re.findall(r"^import \* as (\w+) from './page_", (HERE / 'page_test.mjs').read_text(), re.MULTILINE)
+ROOMS = re.findall(
+    r"^import \* as (\w+) from './page_", (HERE / 'page_test.mjs').read_text(), re.MULTILINE
+)
 
 
 @pytest.mark.parametrize('file', FILES, ids=lambda file: file.stem)
@@ -29,10 +31,18 @@ NEWER = ('lasting', 'meaning')
 
 
 @pytest.mark.browser
-@pytest.mark.parametrize('room', [pytest.param(room, marks=pytest.mark.since('0.7.0') if room in NEWER else ()) for room in ROOMS])
+@pytest.mark.parametrize(
+    'room',
+    [
+        pytest.param(room, marks=pytest.mark.since('0.7.0') if room in NEWER else ())
+        for room in ROOMS
+    ],
+)
 def test_in_chromium(kept, page, room, tmp_path):
     """Trials by mouse, keys and fingers, and what is shown compared with sessions of the program on the same picture."""
-    needs('node', 'esbuild', 'unzip', 'pdfinfo', 'pdftotext', os.environ.get('CHROMIUM', 'chromium'))
+    needs(
+        'node', 'esbuild', 'unzip', 'pdfinfo', 'pdftotext', os.environ.get('CHROMIUM', 'chromium')
+    )
     env = {'PAGE': str(page), 'NONOBENCH': str(kept.program('nonobench'))}
     passes(['node', HERE / 'page_test.mjs', tmp_path, room], env=env, seconds=6000)
 
@@ -40,4 +50,7 @@ def test_in_chromium(kept, page, room, tmp_path):
 @pytest.mark.browser
 def test_in_firefox(kept, page, tmp_path):
     needs('node', os.environ.get('FIREFOX', 'firefox-esr'))
-    passes(['node', HERE / 'firefox.mjs', tmp_path], env={'PAGE': str(page), 'NONOBENCH': str(kept.program('nonobench'))})
+    passes(
+        ['node', HERE / 'firefox.mjs', tmp_path],
+        env={'PAGE': str(page), 'NONOBENCH': str(kept.program('nonobench'))},
+    )

@@ -35,15 +35,26 @@ def test_its_tests(system, tmp_path):
 
 @ON_EACH
 def test_of_the_checker_alone(system, tmp_path):
-    run = system.run(linked(system, tmp_path, ROOT / 'c' / 'check_test.c', '-static', system.made / 'libnonocheck.a'), CASES)
+    run = system.run(
+        linked(
+            system, tmp_path, ROOT / 'c' / 'check_test.c', '-static', system.made / 'libnonocheck.a'
+        ),
+        CASES,
+    )
     assert (run.status, run.wrote.split()[-2:]) == (0, [b'0', b'failed']), run
 
 
 # What the example is called with, and how it ends: certificates that are accepted, by hand as in tests/cases/fit.txt, refused, and
 # that name a given which is not published.
 EXAMPLE = {
-    'diagonal.ppm diagonal.cert': (0, b'unique\nsize 2 2\ncolours 3\ngivens 0\nopen 0\ngrade easy 1 4 3 0 0\nfit\n'),
-    'given.ppm given.cert 1,1': (0, b'unique\nsize 2 2\ncolours 2\ngivens 1\nopen 0\ngrade easy 1 4 2 0 0\nfit\n'),
+    'diagonal.ppm diagonal.cert': (
+        0,
+        b'unique\nsize 2 2\ncolours 3\ngivens 0\nopen 0\ngrade easy 1 4 3 0 0\nfit\n',
+    ),
+    'given.ppm given.cert 1,1': (
+        0,
+        b'unique\nsize 2 2\ncolours 2\ngivens 1\nopen 0\ngrade easy 1 4 2 0 0\nfit\n',
+    ),
     'given.ppm given.cert': (1, b'refused: certificate UnpublishedGiven at line 2\n'),
     'given.ppm diagonal.cert': (1, b'refused: certificate NotDead at line 5\n'),
     'cross.ppm cross.cert 1,2 1,1 2,2': (1, b'refused: certificate UnpublishedGiven at line 4\n'),
@@ -64,7 +75,10 @@ def test_shared_library(system, tmp_path):
     (tmp_path / 'cross.cert').write_text(ALL_GIVEN)
     for words, (status, wrote) in EXAMPLE.items():
         run = system.run(program, *words.split(), cwd=tmp_path)
-        assert (run.status, run.wrote.replace(b'\r\n', b'\n').rstrip()) == (status, wrote.rstrip()), (words, run)
+        assert (run.status, run.wrote.replace(b'\r\n', b'\n').rstrip()) == (
+            status,
+            wrote.rstrip(),
+        ), (words, run)
 
 
 @ON_EACH
@@ -75,16 +89,24 @@ def test_answers_as_on_x86_64(system, library, tmp_path):
     passes(['cc', '-std=c11', '-O1', f'-I{ROOT}/c', HERE / 'answers.c', archive, '-o', here])
     wanted = ended([here, '1', str(COUNT)])
     assert (wanted.status, wanted.wrote.count(b'\n')) == (0, COUNT)
-    assert {b'000000', b'000111', b'111111'} <= {line.split()[0] for line in wanted.wrote.splitlines()}
+    assert {b'000000', b'000111', b'111111'} <= {
+        line.split()[0] for line in wanted.wrote.splitlines()
+    }
     run = system.run(with_archive(system, tmp_path, HERE / 'answers.c'), 1, COUNT)
     assert run.status == 0, run
-    differ = [pair for pair in zip(wanted.wrote.splitlines(), run.wrote.splitlines()) if pair[0] != pair[1]]
+    differ = [
+        pair
+        for pair in zip(wanted.wrote.splitlines(), run.wrote.splitlines())
+        if pair[0] != pair[1]
+    ]
     assert (run.wrote.count(b'\n'), differ[:3]) == (COUNT, [])
 
 
 @ON_EACH
 def test_refused_growths(system, tmp_path):
-    run = system.run(with_archive(system, tmp_path, HERE / 'refusals.c', '-Wl,--wrap=malloc,--wrap=realloc'))
+    run = system.run(
+        with_archive(system, tmp_path, HERE / 'refusals.c', '-Wl,--wrap=malloc,--wrap=realloc')
+    )
     assert (run.status, run.wrote.count(b'growths refused')) == (0, 6), run
 
 
@@ -117,8 +139,14 @@ def symbols(archive):
             if command == 2:
                 table, count, texts, _ = struct.unpack_from('<IIII', archive, at + 8)
                 for one in range(count):
-                    name, kind, _, _, value = struct.unpack_from('<IBBHQ', archive, begin + table + 16 * one)
-                    text = archive[begin + texts + name :].split(b'\0', 1)[0].decode() if kind & 1 else ''
+                    name, kind, _, _, value = struct.unpack_from(
+                        '<IBBHQ', archive, begin + table + 16 * one
+                    )
+                    text = (
+                        archive[begin + texts + name :].split(b'\0', 1)[0].decode()
+                        if kind & 1
+                        else ''
+                    )
                     (defined if kind & 0xE else wanted).add(text)
             at += size
     return defined - {''}, wanted - {''}

@@ -32,7 +32,16 @@ def test_cases(system, kind, tmp_path):
     asked = [row.values for row in rows(kind)]
     assert asked
     calls = [CALLS[kind](tmp_path / f'case{at}', text) for at, (text, _) in enumerate(asked)]
-    within = [([word.relative_to(tmp_path).as_posix() if isinstance(word, Path) else word for word in words], text) for words, text in calls]
+    within = [
+        (
+            [
+                word.relative_to(tmp_path).as_posix() if isinstance(word, Path) else word
+                for word in words
+            ],
+            text,
+        )
+        for words, text in calls
+    ]
     for run, (_, answer) in zip(system.run_each(within, tmp_path), asked, strict=True):
         answered(run, told(kind, answer))
 
@@ -48,7 +57,9 @@ def test_sessions(system, kept, tmp_path):
                 shutil.copy(place, tmp_path)
             words = [word.name if hasattr(word, 'name') else word for word in words]
             runs.append((['work', *words, *background], file.read_bytes()))
-    wanted = [ended([kept.program('nonobench'), *words], text, cwd=tmp_path) for words, text in runs]
+    wanted = [
+        ended([kept.program('nonobench'), *words], text, cwd=tmp_path) for words, text in runs
+    ]
     assert {run.status for run in wanted} == {0}
     assert system.run_each(runs, tmp_path) == wanted
 
@@ -57,11 +68,19 @@ def test_sessions(system, kept, tmp_path):
 def test_what_is_proved_is_accepted(system, tmp_path):
     for name in ('heart', 'diagonal'):
         shutil.copy(EXAMPLES / f'{name}.ppm', tmp_path)
-    [proved, other] = system.run_each([(['prove', 'heart.ppm'], b''), (['prove', 'diagonal.ppm'], b'')], tmp_path)
+    [proved, other] = system.run_each(
+        [(['prove', 'heart.ppm'], b''), (['prove', 'diagonal.ppm'], b'')], tmp_path
+    )
     assert proved.status == 0
     (tmp_path / 'cert').write_bytes(proved.wrote)
-    again = [(['check', 'heart.ppm', 'cert'], b''), (['check', 'heart.ppm', 'cert', '--background', '1,2'], b'')]
-    assert system.run_each(again, tmp_path) == [YES, Ended(2, b'', b'nonobench: background must be R,G,B\n')]
+    again = [
+        (['check', 'heart.ppm', 'cert'], b''),
+        (['check', 'heart.ppm', 'cert', '--background', '1,2'], b''),
+    ]
+    assert system.run_each(again, tmp_path) == [
+        YES,
+        Ended(2, b'', b'nonobench: background must be R,G,B\n'),
+    ]
     assert other.status in (0, 1)
 
 
@@ -77,7 +96,13 @@ def test_names_in_any_script(system, tmp_path):
 def test_files_and_streams(system, tmp_path):
     """A file that is not there, a folder, no word, the longest input and a byte more."""
     longest = b'P3' + b' ' * 16777214
-    runs = [(['work', 'none'], b''), (['work', '.'], b''), (['work', ''], b''), ([], longest), ([], longest + b' ')]
+    runs = [
+        (['work', 'none'], b''),
+        (['work', '.'], b''),
+        (['work', ''], b''),
+        ([], longest),
+        ([], longest + b' '),
+    ]
     assert system.run_each(runs, tmp_path) == [
         NO_READ,
         NO_READ,
@@ -99,7 +124,9 @@ def test_words_that_are_no_text_on_windows(system, tmp_path):
     """Half of a pair that stands alone, either one, and both in the wrong order; a whole pair is a letter."""
     (tmp_path / '😀').write_bytes(PIXEL)
     line = system.line(['work'])
-    lines = [(f'{line} {word}', '-', '', '') for word in ('\ud83d', '\ude00', 'a\ude00\ud83d', '\ud83dx')]
+    lines = [
+        (f'{line} {word}', '-', '', '') for word in ('\ud83d', '\ude00', 'a\ude00\ud83d', '\ud83dx')
+    ]
     assert system.launch(lines, tmp_path) == [NO_TEXT] * 4
     (tmp_path / '0.text').write_bytes(b'clues\n')
     assert system.launch([(f'{line} 😀', '', '', '')], tmp_path) == [CLUES]
@@ -132,8 +159,15 @@ def test_files_on_windows(system, tmp_path):
     (tmp_path / deep).mkdir(parents=True)
     (tmp_path / deep / 'pixel').write_bytes(PIXEL)
     (tmp_path / 'locked').write_bytes(PIXEL)
-    words = ['work', f'{deep}/pixel'], ['work', system.inside(tmp_path / deep / 'pixel')], ['work', f'{deep}/pixel'.replace('/', '\\')]
-    lines = [(system.line(['work', 'locked']), '!locked', '', ''), (system.line(['work', 'NUL']), '-', '', '')]
+    words = (
+        ['work', f'{deep}/pixel'],
+        ['work', system.inside(tmp_path / deep / 'pixel')],
+        ['work', f'{deep}/pixel'.replace('/', '\\')],
+    )
+    lines = [
+        (system.line(['work', 'locked']), '!locked', '', ''),
+        (system.line(['work', 'NUL']), '-', '', ''),
+    ]
     lines += [(system.line(line), '', '', '') for line in words]
     for at in range(2, 5):
         (tmp_path / f'{at}.text').write_bytes(b'clues\n')

@@ -27,13 +27,20 @@ def test_archive(system, made, tmp_path):
     passes(['tar', 'xzf', package, '-C', tmp_path])
     folder = tmp_path / package.name[: -len('.tar.gz')]
     places = ['bin/nonobench', 'lib/nonobench/nonobench/libnonobench.so']
-    places += [f'lib/lib{name}' for name in ('nonobench.a', 'nonobench.so', 'nonocheck.a', 'nonocheck.so')]
+    places += [
+        f'lib/lib{name}' for name in ('nonobench.a', 'nonobench.so', 'nonocheck.a', 'nonocheck.so')
+    ]
     places += ['include/nonobench.h', 'include/nonocheck.h']
     are_those(folder, {place: place.split('/')[-1] for place in places}, system.made)
-    pair = [folder / 'share/doc/nonobench/examples' / f'diagonal.{kind}' for kind in ('ppm', 'cert')]
+    pair = [
+        folder / 'share/doc/nonobench/examples' / f'diagonal.{kind}' for kind in ('ppm', 'cert')
+    ]
     assert system.run(folder / 'bin/nonobench', 'check', *pair) == YES
     run = clean([folder / 'install', '--prefix', tmp_path / 'prefix'])
-    assert (run.status, run.said.startswith(b'install: this is for Linux on aarch64, not for Linux on ')) == (1, True), run
+    assert (
+        run.status,
+        run.said.startswith(b'install: this is for Linux on aarch64, not for Linux on '),
+    ) == (1, True), run
     assert not (tmp_path / 'prefix').exists()
 
 
@@ -42,7 +49,14 @@ def test_deb(system, made, tmp_path):
     needs('dpkg-deb')
     package = named(made, 'nonobench_*_arm64.deb')
     passes(['dpkg-deb', '-x', package, tmp_path])
-    are_those(tmp_path, {'usr/bin/nonobench': 'nonobench', 'usr/lib/nonobench/nonobench/libnonobench.so': 'libnonobench.so'}, system.made)
+    are_those(
+        tmp_path,
+        {
+            'usr/bin/nonobench': 'nonobench',
+            'usr/lib/nonobench/nonobench/libnonobench.so': 'libnonobench.so',
+        },
+        system.made,
+    )
     assert passes(['dpkg-deb', '-f', package, 'Architecture', 'Depends']).splitlines() == [
         'Architecture: arm64',
         'Depends: libc6 (>= 2.17), python3 (>= 3.9)',
@@ -57,7 +71,12 @@ def test_wheel(system, made, tmp_path):
     are_those(tmp_path, {'nonobench/libnonobench.so': 'libnonobench.so'}, system.made)
     [about] = tmp_path.glob('nonobench-*.dist-info/WHEEL')
     assert 'Tag: py3-none-manylinux_2_17_aarch64\n' in about.read_text()
-    program = linked(system, tmp_path / 'nonobench', ROOT / 'c' / 'example.c', tmp_path / 'nonobench' / 'libnonobench.so')
+    program = linked(
+        system,
+        tmp_path / 'nonobench',
+        ROOT / 'c' / 'example.c',
+        tmp_path / 'nonobench' / 'libnonobench.so',
+    )
     assert system.run(program, *(EXAMPLES / f'diagonal.{kind}' for kind in ('ppm', 'cert'))) == FIT
 
 
@@ -82,14 +101,22 @@ def test_wheel_for_windows(system, made, tmp_path):
     package = named(made, 'nonobench-*-py3-none-win_amd64.whl')
     passes([sys.executable, '-m', 'zipfile', '-e', package, tmp_path])
     folder = tmp_path / 'nonobench'
-    are_those(folder, {'nonobench.dll': 'nonobench.dll', 'nonobench.exe': 'nonobench.exe'}, system.made)
+    are_those(
+        folder, {'nonobench.dll': 'nonobench.dll', 'nonobench.exe': 'nonobench.exe'}, system.made
+    )
     [about] = tmp_path.glob('nonobench-*.dist-info/WHEEL')
     assert 'Tag: py3-none-win_amd64\n' in about.read_text()
     assert 'We have not run it on Windows' in (folder / '_by_program.py').read_text()
     pair = [EXAMPLES / f'diagonal.{kind}' for kind in ('ppm', 'cert')]
     program = linked(system, folder, ROOT / 'c' / 'example.c', system.made / 'libnonobench.dll.a')
-    for run, told in ((system.run(folder / 'nonobench.exe', 'check', *pair), YES), (system.run(program, *pair), FIT)):
-        assert (run.status, run.wrote.replace(b'\r\n', b'\n').strip()) == (0, told.wrote.strip()), run
+    for run, told in (
+        (system.run(folder / 'nonobench.exe', 'check', *pair), YES),
+        (system.run(program, *pair), FIT),
+    ):
+        assert (run.status, run.wrote.replace(b'\r\n', b'\n').strip()) == (
+            0,
+            told.wrote.strip(),
+        ), run
 
 
 @ON_WINDOWS
@@ -102,10 +129,16 @@ def test_archive_for_windows(system, made, tmp_path):
     for name in ('nonobench', 'nonocheck'):
         places += [f'c/{name}.dll', f'c/lib{name}.a', f'c/lib{name}.dll.a', f'c/{name}.h']
     are_those(folder, {place: place.split('/')[-1] for place in places}, system.made)
-    commands = [line.strip() for line in (folder / 'README.txt').read_text().splitlines() if line.startswith('    ')]
+    commands = [
+        line.strip()
+        for line in (folder / 'README.txt').read_text().splitlines()
+        if line.startswith('    ')
+    ]
     [build] = [command for command in commands if command.startswith('gcc ')]
     passes([system.compiler, *build.replace('\\', '/').split()[1:]], cwd=folder)
-    runs = system.launch([(f'cmd /d /c {command}', '-', '', '') for command in commands if command != build], folder)
+    runs = system.launch(
+        [(f'cmd /d /c {command}', '-', '', '') for command in commands if command != build], folder
+    )
     assert [(run.status, run.said) for run in runs] == [(0, b'')] * 4, runs
     first = [run.wrote.split(b'.')[0].replace(b'\r\n', b'\n').strip() for run in runs]
     assert first == [YES.wrote.strip(), b'', b'Multicolour nonograms', FIT.wrote.strip()]

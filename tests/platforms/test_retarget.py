@@ -40,7 +40,13 @@ def retargeted(folder, system, text):
     needs('node')
     (folder / 'wide.ll').write_text(text)
     (folder / 'layout.ll').write_text(f'; ModuleID\n{LAYOUTS[system]}')
-    run = ended(['node', ROOT / 'platforms' / 'retarget.mjs', *(folder / f'{name}.ll' for name in ('wide', 'layout', 'to'))])
+    run = ended(
+        [
+            'node',
+            ROOT / 'platforms' / 'retarget.mjs',
+            *(folder / f'{name}.ll' for name in ('wide', 'layout', 'to')),
+        ]
+    )
     return run, (folder / 'to.ll').read_text().split('\n') if run.status == 0 else []
 
 
@@ -57,7 +63,11 @@ def test_what_it_becomes(system, tmp_path):
     """What is exported takes a bool of any upper bits."""
     run, lines = retargeted(tmp_path, system, MODULE)
     assert run.status == 0, run
-    wanted = MODULE.replace(f'{WIDE}\n{TRIPLE}\n', LAYOUTS[system]).replace(HEAD, HEAD.replace(' zeroext', '')).split('\n')
+    wanted = (
+        MODULE.replace(f'{WIDE}\n{TRIPLE}\n', LAYOUTS[system])
+        .replace(HEAD, HEAD.replace(' zeroext', ''))
+        .split('\n')
+    )
     wanted[-3] = f'attributes #0 = {{ {BECOMES[system]} }}'
     assert lines == wanted
 

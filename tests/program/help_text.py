@@ -40,14 +40,20 @@ def words_of(program, *words):
         elif part == 'Options' and re.match(r' +-', line):
             option, *rest = parts if parts[0].startswith('--') else parts[1:]
             value = f' {rest[0].strip("<>")}' if rest and re.fullmatch(r'<.*>', rest[0]) else ''
-            found.add(f' {option}' if option in ('--help', '--version') else f'{word} {option}{value}')
+            found.add(
+                f' {option}' if option in ('--help', '--version') else f'{word} {option}{value}'
+            )
     return found
 
 
 def options_of(program, *words):
-    return {part for line in words_of(program, *words) for part in line.split() if part.startswith('--')}
+    return {
+        part for line in words_of(program, *words) for part in line.split() if part.startswith('--')
+    }
 
 
 def formats_of(program, command):
     """The formats of puzzles that `work` and `assess` take, or those of certificates that `prove` makes."""
-    return set(re.search(r'--format.*possible values: ([^]]*)\]', help_of(program, command))[1].split(', '))
+    return set(
+        re.search(r'--format.*possible values: ([^]]*)\]', help_of(program, command))[1].split(', ')
+    )

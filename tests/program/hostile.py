@@ -40,7 +40,9 @@ def lines(*parts):
 
 def splits():
     """The lines of a tree that splits each cell, sixteen ways, and ends each branch in the first row, which is dead."""
-    cells = [lines(f'split {row} {col}') for row in range(1, SIDE + 1) for col in range(1, SIDE + 1)]
+    cells = [
+        lines(f'split {row} {col}') for row in range(1, SIDE + 1) for col in range(1, SIDE + 1)
+    ]
     yield from cells
     tried = [0] * len(cells)
     while True:
@@ -50,7 +52,7 @@ def splits():
             tried[at] = 0
             at -= 1
         tried[at] += 1
-        yield from cells[at + 1:]
+        yield from cells[at + 1 :]
 
 
 def givens():
@@ -65,7 +67,9 @@ def behind_blank(line):
 
 def picture(cell):
     """A P3 text of a square picture; `cell` says whether a cell is black."""
-    cells = ('0 0 0' if cell(row, col) else '255 255 255' for row in range(SIDE) for col in range(SIDE))
+    cells = (
+        '0 0 0' if cell(row, col) else '255 255 255' for row in range(SIDE) for col in range(SIDE)
+    )
     return lines('P3', f'{SIDE} {SIDE}', '255', *cells)
 
 
@@ -84,11 +88,21 @@ BLANK = picture(lambda row, col: False)
 PIXEL = lines('P3', '1 1', '255', '0 0 0')
 SMALL = lines('P3', '2 2', '255', '0 0 0', '255 255 255', '255 255 255', '0 0 255')
 # The small picture is shown, and then no list fits the root.
-DEAD_ROOT = lines('part 1 1 .bcdefghijklmno', 'line r 1', 'line c 1', 'line r 2', 'done', 'line r 1', 'line c 2')
+DEAD_ROOT = lines(
+    'part 1 1 .bcdefghijklmno', 'line r 1', 'line c 1', 'line r 2', 'done', 'line r 1', 'line c 2'
+)
 # A lemma of the most literals, all of them denied by its own first; then a branch in which none of them has a colour left.
 LONG_LEMMA = lines('lemma', *['deny 1 1 a'] * 1024, 'dead r 1', 'part 1 1 a')
-DENSE = lines('P3', f'{LARGE} {LARGE}', '255',
-              *(' '.join(str(255 - dense(row, col) * step % 256) for step in (16, 37, 77)) for row in range(LARGE) for col in range(LARGE)))
+DENSE = lines(
+    'P3',
+    f'{LARGE} {LARGE}',
+    '255',
+    *(
+        ' '.join(str(255 - dense(row, col) * step % 256) for step in (16, 37, 77))
+        for row in range(LARGE)
+        for col in range(LARGE)
+    ),
+)
 # A large blank picture, and the lines that settle it.
 WHITE = lines('P3', f'{LARGE} {LARGE}', '1', *['1 ' * LARGE * 3] * LARGE)
 SETTLED = lines(*(f'line r {at}' for at in range(1, LARGE + 1)))
@@ -109,7 +123,9 @@ class Kind:
         self.tail = tail
         self.beside = beside
         self.fault = fault
-        self.is_kept = is_kept  # whether the program keeps the text, so that its memory is told beyond it
+        self.is_kept = (
+            is_kept  # whether the program keeps the text, so that its memory is told beyond it
+        )
 
     def is_answer(self, status, said):
         """Whether a run on the text ends as it must."""
@@ -133,7 +149,11 @@ class Kind:
         while True:
             piece = b''.join(islice(said, 16))
             if len(piece) >= room or not piece:
-                yield piece[:piece.rfind(b'\n', 0, room) + 1 if b'\n' in piece and self.words[:1] == ('check',) else room]
+                yield piece[
+                    : piece.rfind(b'\n', 0, room) + 1
+                    if b'\n' in piece and self.words[:1] == ('check',)
+                    else room
+                ]
                 return
             yield piece
             room -= len(piece)
@@ -146,7 +166,13 @@ def ppm(head, body, tail=b'', fault=None):
 
 def cert(body, fault, beside=NOISE, form='nonocert 1', head=b''):
     """A certificate for a picture, which it does not prove."""
-    return Kind(('check', 'beside', 'text'), lines(form) + head, body, beside=beside, fault='certificate ' + fault)
+    return Kind(
+        ('check', 'beside', 'text'),
+        lines(form) + head,
+        body,
+        beside=beside,
+        fault='certificate ' + fault,
+    )
 
 
 def lemmas(head, body, fault):
@@ -156,7 +182,9 @@ def lemmas(head, body, fault):
 
 def non(head, body, tail=b'', fault=None):
     """A .non text that a session opens."""
-    return Kind(('work', 'text', '--format', 'non'), head, body, tail, fault=fault and 'non ' + fault)
+    return Kind(
+        ('work', 'text', '--format', 'non'), head, body, tail, fault=fault and 'non ' + fault
+    )
 
 
 def session(body, head=b''):
@@ -166,7 +194,11 @@ def session(body, head=b''):
 
 ENDED = r'Ended at line \d+'
 KINDS = {
-    'P3: comments': ppm(b'P3\n', b'# a comment of some sixty bytes, with the line end that closes it\n', b'\n1 1\n255\n0 0 0\n'),
+    'P3: comments': ppm(
+        b'P3\n',
+        b'# a comment of some sixty bytes, with the line end that closes it\n',
+        b'\n1 1\n255\n0 0 0\n',
+    ),
     'P3: one comment': ppm(b'P3#', b'x', b'\n1 1\n255\n0 0 0\n'),
     'P3: empty comments': ppm(b'P3\n', b'#\n', b'\n1 1\n255\n0 0 0\n'),
     'P3: white space': ppm(b'P3', b' \n', b'1 1\n255\n0 0 0\n'),
@@ -174,15 +206,22 @@ KINDS = {
     'P3: one long number': ppm(b'P3\n', b'9', fault='TooLarge at byte 3'),
     'P3: one long token': ppm(b'P3\n', b'x', fault='BadNumber at byte 3'),
     # Behind fifteen bytes stand three samples a cell, of 46 bytes each.
-    'P3: samples without end': ppm(b'P3\n120 120\n255\n', b'000000000000000000000000000000000000000000007\n',
-                                   fault=f'TrailingToken at byte {15 + 120 * 120 * 3 * 46}'),
+    'P3: samples without end': ppm(
+        b'P3\n120 120\n255\n',
+        b'000000000000000000000000000000000000000000007\n',
+        fault=f'TrailingToken at byte {15 + 120 * 120 * 3 * 46}',
+    ),
     'P3: tokens behind the picture': ppm(PIXEL, b'7 ', fault='TrailingToken at byte 17'),
     'certificate: nested splits': cert(splits, ENDED),
-    'certificate: splits with one colour left': cert(lambda: behind_blank('split 1 1'), ENDED, BLANK),
+    'certificate: splits with one colour left': cert(
+        lambda: behind_blank('split 1 1'), ENDED, BLANK
+    ),
     'certificate: line r 1': cert(b'line r 1\n', ENDED),
     'certificate: line r 2': cert(b'line r 2\n', ENDED),
     # The tree is whole with the first `done`, which stands below the twenty lines that settle the picture.
-    'certificate: lines behind the end': cert(lambda: behind_blank('done'), 'Trailing at line 23', BLANK),
+    'certificate: lines behind the end': cert(
+        lambda: behind_blank('done'), 'Trailing at line 23', BLANK
+    ),
     'certificate: givens': cert(givens, 'Place at line 2', form='nonocert 2'),
     'certificate: one long line': cert(b'0', 'BadLine at line 2'),
     'certificate: blank lines': cert(b'\n', 'BadLine at line 2'),
@@ -191,19 +230,43 @@ KINDS = {
     'lemmas: a long one': lemmas(b'lemma\n', b'deny 1 1 a\n', 'Full at line 1027'),
     'lemmas: lines that nothing follows from': lemmas(b'', b'line r 1\n', ENDED),
     'lemmas: a long one, used': cert(b'use 1\n', ENDED, PIXEL, 'nonolemma 1', LONG_LEMMA),
-    'lemmas: a long one that ends branches': cert(b'part 1 1 a\ndead l 1\n', ENDED, PIXEL, 'nonolemma 1', LONG_LEMMA),
-    'lemmas: a large picture that is shown': cert(b'lemma\ndone\n', ENDED, WHITE, 'nonolemma 1', SETTLED),
-    'lemmas: large lines': cert(lines('lemma', DENIED, *(f'line {place}' for place in PLACES), 'dead r 1'), ENDED, DENSE, 'nonolemma 1'),
-    'runs: a long lemma, used': cert(lines('use' + ' 1' * 1000), ENDED, PIXEL, 'nonolemma 2', LONG_LEMMA),
-    'runs: large lines': cert(lines('lemma', DENIED, 'line ' + ' '.join(place.replace(' ', '') for place in PLACES), 'dead r 1'), ENDED,
-                              DENSE, 'nonolemma 2'),
+    'lemmas: a long one that ends branches': cert(
+        b'part 1 1 a\ndead l 1\n', ENDED, PIXEL, 'nonolemma 1', LONG_LEMMA
+    ),
+    'lemmas: a large picture that is shown': cert(
+        b'lemma\ndone\n', ENDED, WHITE, 'nonolemma 1', SETTLED
+    ),
+    'lemmas: large lines': cert(
+        lines('lemma', DENIED, *(f'line {place}' for place in PLACES), 'dead r 1'),
+        ENDED,
+        DENSE,
+        'nonolemma 1',
+    ),
+    'runs: a long lemma, used': cert(
+        lines('use' + ' 1' * 1000), ENDED, PIXEL, 'nonolemma 2', LONG_LEMMA
+    ),
+    'runs: large lines': cert(
+        lines(
+            'lemma',
+            DENIED,
+            'line ' + ' '.join(place.replace(' ', '') for place in PLACES),
+            'dead r 1',
+        ),
+        ENDED,
+        DENSE,
+        'nonolemma 2',
+    ),
     '.non: a million keyword lines': non(PUZZLE, b'title\n'),
     '.non: a million sections': non(PUZZLE, b'rows\n', fault='Repeated'),
     '.non: a million lines of a section': non(PUZZLE, b'1\n', fault='BadCount'),
     '.non: blank lines of a section': non(PUZZLE, b'\n'),
     '.non: comments': non(PUZZLE, b'#\n'),
-    '.non: a clue of a million numbers': non(lines('width 1', 'height 1', 'columns', '1', 'rows'), b'1,', fault='BadClue'),
-    '.non: a clue of zeros': non(lines('width 1', 'height 1', 'columns', '1', 'rows'), b'0', b'1\n'),
+    '.non: a clue of a million numbers': non(
+        lines('width 1', 'height 1', 'columns', '1', 'rows'), b'1,', fault='BadClue'
+    ),
+    '.non: a clue of zeros': non(
+        lines('width 1', 'height 1', 'columns', '1', 'rows'), b'0', b'1\n'
+    ),
     '.non: a long goal': non(PUZZLE + b'goal "', b'1', b'"\n', fault='BadGoal'),
     '.non: a long width': non(b'width ', b'0', b'1\n', fault='MissingSize'),
     'session: a line without end': session(b'x'),
@@ -227,7 +290,10 @@ class Machine:
         with open(os.path.join(self.folder, 'beside'), 'wb') as file:
             file.write(kind.beside)
         bytes_of = kind.write(path, size)
-        words = [os.path.join(self.folder, word) if word in ('beside', 'text') else word for word in kind.words]
+        words = [
+            os.path.join(self.folder, word) if word in ('beside', 'text') else word
+            for word in kind.words
+        ]
         return bytes_of, words, os.devnull if 'text' in kind.words else path
 
     def measure(self, kind, size):
@@ -237,11 +303,20 @@ class Machine:
         # A process begun by this one has its peak too. One that TIME begins has its own.
         before = [TIME, '-q', '-f', '%M', '-o', told] if os.path.exists(TIME) else []
         words = [*before, self.program, *words]
-        with open(given, 'rb') as source, open(os.devnull, 'wb') as sink, open(said, 'wb') as errors:
+        with open(given, 'rb') as source, open(os.devnull, 'wb') as sink, open(
+            said, 'wb'
+        ) as errors:
             began = time.monotonic()
-            process = os.posix_spawn(words[0], words, {}, file_actions=[
-                (os.POSIX_SPAWN_DUP2, source.fileno(), 0), (os.POSIX_SPAWN_DUP2, sink.fileno(), 1),
-                (os.POSIX_SPAWN_DUP2, errors.fileno(), 2)])
+            process = os.posix_spawn(
+                words[0],
+                words,
+                {},
+                file_actions=[
+                    (os.POSIX_SPAWN_DUP2, source.fileno(), 0),
+                    (os.POSIX_SPAWN_DUP2, sink.fileno(), 1),
+                    (os.POSIX_SPAWN_DUP2, errors.fileno(), 2),
+                ],
+            )
             _, ended, usage = os.wait4(process, 0)
         with open(said, 'rb') as errors:
             text = errors.read(200).decode('latin-1').strip()
@@ -256,8 +331,19 @@ class Machine:
         """The instructions that a text of a size takes, and its bytes."""
         bytes_of, words, given = self.prepare(kind, size)
         with open(given, 'rb') as source:
-            ended = subprocess.run(['valgrind', '--tool=callgrind', '--callgrind-out-file=/dev/null', self.program, *words],
-                                   stdin=source, stdout=subprocess.DEVNULL, stderr=subprocess.PIPE, check=False)
+            ended = subprocess.run(
+                [
+                    'valgrind',
+                    '--tool=callgrind',
+                    '--callgrind-out-file=/dev/null',
+                    self.program,
+                    *words,
+                ],
+                stdin=source,
+                stdout=subprocess.DEVNULL,
+                stderr=subprocess.PIPE,
+                check=False,
+            )
         return int(re.search(rb'Collected : (\d+)', ended.stderr).group(1)), bytes_of
 
 
@@ -272,14 +358,20 @@ def row_of(machine, name, kind):
     many, peak, seconds, status, signal, said = machine.measure(kind, MOST_BYTES)
     over = max(0, peak - many if kind.is_kept else peak)
     is_right = not signal and kind.is_answer(status, said)
-    good = over < (MOST_LEMMAS if kind.head.startswith(b'nonolemma') else MOST_OVER) and is_linear(fast / few, seconds / many, 0.1 / many, 2)
+    good = over < (MOST_LEMMAS if kind.head.startswith(b'nonolemma') else MOST_OVER) and is_linear(
+        fast / few, seconds / many, 0.1 / many, 2
+    )
     good = good and (kind.is_kept or peak < low + MEBIBYTE)
     counted = ''
     if shutil.which('valgrind'):
         one, two, four = (machine.instructions(kind, size) for size in COUNTED)
         first, second = (slope(one, two), slope(two, four))
         counted = f'{second:.1f}'
-        good = good and is_linear(first, second, 1, 1.1) and second < MOST_COUNTED / (1 if name.startswith('runs') else 3)
+        good = (
+            good
+            and is_linear(first, second, 1, 1.1)
+            and second < MOST_COUNTED / (1 if name.startswith('runs') else 3)
+        )
     answer = said or f'status {status}' if not signal else f'SIGNAL {signal}'
     line = f'{name:<42} {many:>9} {counted:>8} {seconds:>8.2f} {over / MEBIBYTE:>8.1f}  {answer}'
     mark = '' if good else '   OUT OF BOUNDS'
@@ -306,7 +398,11 @@ def main(*wanted):
 
 def measured(program, folder, wanted):
     """Measures kinds in a folder; gives the status."""
-    kinds = {name: kind for name, kind in KINDS.items() if not wanted or any(word in name for word in wanted)}
+    kinds = {
+        name: kind
+        for name, kind in KINDS.items()
+        if not wanted or any(word in name for word in wanted)
+    }
     if not takes_work(program):
         kinds = {name: kind for name, kind in kinds.items() if kind.words[:1] != ('work',)}
         print('this program has no sessions: .non texts and sessions are left out')

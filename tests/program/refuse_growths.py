@@ -30,7 +30,10 @@ LONG = b'x' * 201  # a line whose answer ends each answer of a dialogue
 END = b'refused: LongLine\n'
 LOOKS = (b'clues', b'map', b'write ppm')  # what is asked behind a refusal: these change nothing
 MOST = 100_000
-UNSETTLED = ('certificate_without_allowance', 'past_the_fixed_order')  # sessions' pictures that take branches
+UNSETTLED = (
+    'certificate_without_allowance',
+    'past_the_fixed_order',
+)  # sessions' pictures that take branches
 
 # Each kind of edit on the picture of examples/diagonal.ppm, and what is asked after it.
 DAY = b'''colour add 0 0 255
@@ -97,8 +100,13 @@ class Program:
 
     def open(self, number, words):
         """Begins a run in which one growth is refused, or none where the number is 0."""
-        return subprocess.Popen([self.program, *words], stdin=subprocess.PIPE, stdout=subprocess.PIPE,
-                                stderr=subprocess.PIPE, env={'LD_PRELOAD': self.library, 'REFUSED': str(number)})
+        return subprocess.Popen(
+            [self.program, *words],
+            stdin=subprocess.PIPE,
+            stdout=subprocess.PIPE,
+            stderr=subprocess.PIPE,
+            env={'LD_PRELOAD': self.library, 'REFUSED': str(number)},
+        )
 
     def run(self, number, words, text=b''):
         """The status, what was written and what was said but for the library's mark; and whether a growth was refused."""
@@ -131,7 +139,9 @@ class Run:
         if ended == (1, b'', MEMORY) and was_refused:
             return True, True
         if ended != self.ample:
-            raise Wrong(f'it ends with status {ended[0]}, writes {ended[1][:80]!r} and says {ended[2][:80]!r}')
+            raise Wrong(
+                f'it ends with status {ended[0]}, writes {ended[1][:80]!r} and says {ended[2][:80]!r}'
+            )
         return was_refused, False
 
 
@@ -162,7 +172,9 @@ class Dialogue:
     def look(self):
         """What is shown of the bench without a search. A look that is refused is repeated."""
         answers = [self.ask(line) for line in LOOKS]
-        return [self.ask(line) if answer == WANTED else answer for line, answer in zip(LOOKS, answers)]
+        return [
+            self.ask(line) if answer == WANTED else answer for line, answer in zip(LOOKS, answers)
+        ]
 
     def end(self):
         """The status and what was said, and whether a growth was refused."""
@@ -185,7 +197,11 @@ class Session:
             for line in lines:
                 self.answers.append(dialogue.ask(line))
                 self.shown.append(dialogue.look())
-            if dialogue.end() != ((0, b'', b''), False) or dialogue.refusals or None in self.answers:
+            if (
+                dialogue.end() != ((0, b'', b''), False)
+                or dialogue.refusals
+                or None in self.answers
+            ):
                 raise Wrong('with ample memory it does not end as it must')
 
     def refuse(self, number):
@@ -198,8 +214,13 @@ class Session:
             if is_open:
                 self.shows(dialogue, len(self.lines))
             ended, was_refused = dialogue.end()
-        if ended != ((0, b'', b'') if is_open else (1, b'', MEMORY)) or dialogue.refusals > was_refused:
-            raise Wrong(f'it ends with status {ended[0]} after {dialogue.refusals} refusals and says {ended[2][:80]!r}')
+        if (
+            ended != ((0, b'', b'') if is_open else (1, b'', MEMORY))
+            or dialogue.refusals > was_refused
+        ):
+            raise Wrong(
+                f'it ends with status {ended[0]} after {dialogue.refusals} refusals and says {ended[2][:80]!r}'
+            )
         return was_refused, dialogue.refusals > 0 or not is_open
 
     def says(self, dialogue, at):
@@ -280,7 +301,10 @@ def sessions(folder):
     puzzle = folder / 'puzzle'
     text = (EXAMPLES / 'key.non').read_bytes().splitlines(keepends=True)
     puzzle.write_bytes(b''.join(line for line in text if not line.startswith(b'goal')))
-    yield 'session without a goal', ['work', str(puzzle), '--format', 'non'], [b'write non', b'verdict']
+    yield 'session without a goal', ['work', str(puzzle), '--format', 'non'], [
+        b'write non',
+        b'verdict',
+    ]
 
 
 def checks(program, folder):
@@ -305,7 +329,12 @@ def lemmas(program, folder):
         if cert.startswith(b'nono'):
             kept = folder / f'{path.stem}.cert'
             kept.write_bytes(cert)
-            yield f'check {path.stem} by lemmas', ['check', str(path), str(kept), *background_of(path)]
+            yield f'check {path.stem} by lemmas', [
+                'check',
+                str(path),
+                str(kept),
+                *background_of(path),
+            ]
 
 
 def assessments(folder):
@@ -322,7 +351,15 @@ def runs(program, folder):
     """All runs: names, and what refuses a growth of each."""
     for path in sorted(EXAMPLES.glob('*.ppm')):
         yield f'clues {path.stem}', Run(program, [], path.read_bytes())
-    for words in ('--help', 'work --help', '--version', 'check', 'work F --history 0', 'work F --background 1', 'jump'):
+    for words in (
+        '--help',
+        'work --help',
+        '--version',
+        'check',
+        'work F --history 0',
+        'work F --background 1',
+        'jump',
+    ):
         yield f'words {words}', Run(program, words.split())
     for name, words in (*checks(program, folder), *lemmas(program, folder), *assessments(folder)):
         yield name, Run(program, words)
@@ -336,18 +373,28 @@ def main(*wanted):
     all_refused = all_idle = 0
     with tempfile.TemporaryDirectory() as folder:
         try:
-            for name, run in runs(Program(os.path.realpath(PROGRAM), compiled(folder)), Path(folder)):
+            for name, run in runs(
+                Program(os.path.realpath(PROGRAM), compiled(folder)), Path(folder)
+            ):
                 if wanted and not any(word in name for word in wanted):
                     continue
                 refused, idle = in_turn(name, run)
-                print(f'{name}: {refused} growths refused' + f', {idle} of them without a trace' * (idle > 0), flush=True)
+                print(
+                    f'{name}: {refused} growths refused'
+                    + f', {idle} of them without a trace' * (idle > 0),
+                    flush=True,
+                )
                 all_refused += refused
                 all_idle += idle
         except Wrong as wrong:
             print(wrong, file=sys.stderr)
             return 1
-    print(f'{all_refused} growths refused, {all_idle} of them without a trace, in {time.monotonic() - began:.0f} seconds')
-    return 0 if all_refused else 1  # a program that is linked statically asks the library for nothing
+    print(
+        f'{all_refused} growths refused, {all_idle} of them without a trace, in {time.monotonic() - began:.0f} seconds'
+    )
+    return (
+        0 if all_refused else 1
+    )  # a program that is linked statically asks the library for nothing
 
 
 if __name__ == '__main__':

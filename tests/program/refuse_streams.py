@@ -30,12 +30,21 @@ MOST_MEMORY = 256 << 20  # of a run on an input without end: it keeps 16 MiB of 
 READ = (3, b'nonobench: read failed\n')
 WRITE = (3, b'nonobench: write failed\n')
 THREE = b'P3\n2 2\n255\n0 0 0\n0 0 0\n0 0 0\n255 255 255\n'
-REPORT = (b'size 2 2\ncolours 2 maxval 255\n. 255 255 255\na 0 0 0\npicture\naa\na.\nclues\nr 1: 2a\nr 2: 1a\nc 1: 2a\nc 2: 1a\n'
-          b'map\naa\na.\nopen 0\nverdict unique\nhistory 0 1\n')
+REPORT = (
+    b'size 2 2\ncolours 2 maxval 255\n. 255 255 255\na 0 0 0\npicture\naa\na.\nclues\nr 1: 2a\nr 2: 1a\nc 1: 2a\nc 2: 1a\n'
+    b'map\naa\na.\nopen 0\nverdict unique\nhistory 0 1\n'
+)
 # The lines of a session over three black cells of four, and what is said to each.
-LINES = ((b'verdict\n', b'unique\n'), (b'paint 1 1 .\n', b'ok\n'), (b'map\r\n', b'??\n??\n'), (b' \n', b''),
-         (b'verdict\n', b'ambiguous\na.\n.a\n'), (b'undo\n', b'ok\n'), (b'undo\n', b'refused: UndoEmpty\n'),
-         (b'report\n', REPORT))
+LINES = (
+    (b'verdict\n', b'unique\n'),
+    (b'paint 1 1 .\n', b'ok\n'),
+    (b'map\r\n', b'??\n??\n'),
+    (b' \n', b''),
+    (b'verdict\n', b'ambiguous\na.\n.a\n'),
+    (b'undo\n', b'ok\n'),
+    (b'undo\n', b'refused: UndoEmpty\n'),
+    (b'report\n', REPORT),
+)
 CLUES = b'r 1: 2a\nr 2: 1a\nc 1: 2a\nc 2: 1a\n'
 
 
@@ -66,12 +75,21 @@ class Streams:
 
     def run(self, words, limit=None, **streams):
         """The status, what was said on standard error, and what was written where that is a pipe."""
+
         def limited():
             if limit:
                 resource.setrlimit(*limit)
+
         # Without `restore_signals` a write past the limit fails, and does not end the program.
-        ended = subprocess.run([self.program, *words], cwd=self.folder, timeout=PATIENCE, check=False, restore_signals=False,
-                               preexec_fn=limited, **{'stderr': subprocess.PIPE, **streams})
+        ended = subprocess.run(
+            [self.program, *words],
+            cwd=self.folder,
+            timeout=PATIENCE,
+            check=False,
+            restore_signals=False,
+            preexec_fn=limited,
+            **{'stderr': subprocess.PIPE, **streams},
+        )
         return (ended.returncode, ended.stderr), ended.stdout
 
     def on_line(self, words, given):
@@ -89,17 +107,25 @@ class Streams:
         """Runs with room for so many bytes of output; how it ended, and the bytes."""
         path = os.path.join(self.folder, 'out')
         with open(source, 'rb') as given, open(path, 'wb') as file:
-            ended, _ = self.run(words, (resource.RLIMIT_FSIZE, (room, room)), stdin=given, stdout=file)
+            ended, _ = self.run(
+                words, (resource.RLIMIT_FSIZE, (room, room)), stdin=given, stdout=file
+            )
         return ended, Path(path).read_bytes()
-
 
     def in_pieces(self, words, pieces):
         """Runs where each read gives one of the pieces: a pipe of packets keeps them apart. How it ended, and what it wrote."""
         given, source = os.pipe2(os.O_DIRECT)
-        with contextlib.suppress(OSError):  # only for speed, and a user may have so much room in pipes, and no more
+        with contextlib.suppress(
+            OSError
+        ):  # only for speed, and a user may have so much room in pipes, and no more
             fcntl.fcntl(source, fcntl.F_SETPIPE_SZ, 1 << 20)
-        with subprocess.Popen([self.program, *words], cwd=self.folder, stdin=given, stdout=subprocess.PIPE,
-                              stderr=subprocess.PIPE) as process:
+        with subprocess.Popen(
+            [self.program, *words],
+            cwd=self.folder,
+            stdin=given,
+            stdout=subprocess.PIPE,
+            stderr=subprocess.PIPE,
+        ) as process:
             os.close(given)
             try:
                 for piece in pieces:
@@ -128,9 +154,12 @@ def reads(streams):
         return 0
     given = b''.join(line for line, _ in LINES)
     for count in range(len(given) + 1):
-        answered = LINES[:given[:count].count(b'\n')]
+        answered = LINES[: given[:count].count(b'\n')]
         ended = streams.on_line(['work', 'three.ppm'], given[:count])
-        must(ended == (READ, b''.join(answer for _, answer in answered)), f'a read that fails behind {count} bytes: {ended}')
+        must(
+            ended == (READ, b''.join(answer for _, answer in answered)),
+            f'a read that fails behind {count} bytes: {ended}',
+        )
     for count in range(len(THREE) + 1):
         ended = streams.on_line([], THREE[:count])
         must(ended == (READ, b''), f'a read of a picture that fails behind {count} bytes: {ended}')
@@ -143,11 +172,16 @@ def writes(streams):
     lines = streams.file('lines', b''.join(line for line, _ in LINES))
     answers = b''.join(answer for _, answer in LINES)
     diagonal = str(EXAMPLES / 'diagonal')
-    (_, said), version = streams.run(['--version'], stdin=subprocess.DEVNULL, stdout=subprocess.PIPE)
+    (_, said), version = streams.run(
+        ['--version'], stdin=subprocess.DEVNULL, stdout=subprocess.PIPE
+    )
     must(said == b'', f'the version says {said}')
-    runs = ((['work', 'three.ppm'], lines, answers), ([], streams.file('three.ppm', THREE), CLUES),
-            (['check', diagonal + '.ppm', diagonal + '.cert'], os.devnull, b'certificate accepted\n'),
-            (['--version'], os.devnull, version))
+    runs = (
+        (['work', 'three.ppm'], lines, answers),
+        ([], streams.file('three.ppm', THREE), CLUES),
+        (['check', diagonal + '.ppm', diagonal + '.cert'], os.devnull, b'certificate accepted\n'),
+        (['--version'], os.devnull, version),
+    )
     for words, source, wanted in runs:
         for room in range(len(wanted)):
             ended = streams.with_room(words, room, source)
@@ -166,7 +200,9 @@ def endless(streams):
         for words in ([], ['work', '/dev/zero'], ['check', 'three.ppm', '/dev/zero']):
             ended = streams.run(words, memory, stdin=zeros, stdout=subprocess.PIPE)
             must(ended == (long, b''), f'{words} on zeros without end: {ended}')
-    with subprocess.Popen(['yes', 'undo'], stdout=subprocess.PIPE) as source, open('/dev/full', 'wb') as full:
+    with subprocess.Popen(['yes', 'undo'], stdout=subprocess.PIPE) as source, open(
+        '/dev/full', 'wb'
+    ) as full:
         ended = streams.run(['work', 'three.ppm'], memory, stdin=source.stdout, stdout=full)
         source.stdout.close()
         source.kill()
@@ -181,26 +217,37 @@ def pieces(streams):
     wanted = b''.join(answer for _, answer in LINES)
     for size in (1, 2, 3, 7, 64):
         for text in (given, given[:-1]):
-            ended = streams.in_pieces(['work', 'three.ppm'], (text[at:at + size] for at in range(0, len(text), size)))
+            ended = streams.in_pieces(
+                ['work', 'three.ppm'], (text[at : at + size] for at in range(0, len(text), size))
+            )
             must(ended == ((0, b''), wanted), f'a session in pieces of {size} bytes: {ended}')
     for byte in (b'\n', b'a'):
         ended = streams.in_pieces(['work', 'three.ppm'], (byte for _ in range(MOST_READS + 1)))
         must(ended == (READ, b''), f'{byte} in more reads than a session may make: {ended}')
     # One byte less leaves a read that tells that the input ends, and so does the line, which is too long.
     ended = streams.in_pieces(['work', 'three.ppm'], (b' ' for _ in range(MOST_READS - 1)))
-    must(ended == ((0, b''), b'refused: LongLine\n'), f'as many reads as a session may make: {ended}')
+    must(
+        ended == ((0, b''), b'refused: LongLine\n'), f'as many reads as a session may make: {ended}'
+    )
     return 13
 
 
 def dialogue(streams):
     """Says each line when the one before was answered."""
-    with subprocess.Popen([streams.program, 'work', 'three.ppm'], cwd=streams.folder, stdin=subprocess.PIPE,
-                          stdout=subprocess.PIPE) as process:
+    with subprocess.Popen(
+        [streams.program, 'work', 'three.ppm'],
+        cwd=streams.folder,
+        stdin=subprocess.PIPE,
+        stdout=subprocess.PIPE,
+    ) as process:
         for line, answer in LINES:
             os.write(process.stdin.fileno(), line)
             got = b''
             until = time.monotonic() + PATIENCE
-            while len(got) < len(answer) and select.select([process.stdout], [], [], max(0, until - time.monotonic()))[0]:
+            while (
+                len(got) < len(answer)
+                and select.select([process.stdout], [], [], max(0, until - time.monotonic()))[0]
+            ):
                 got += os.read(process.stdout.fileno(), 4096) or b'.' * len(answer)
             if got != answer:
                 process.kill()
@@ -221,9 +268,10 @@ def main():
         except (Wrong, subprocess.TimeoutExpired) as wrong:
             print(wrong, file=sys.stderr)
             return 1
-    print('%d reads and %d writes failed in turn; %d inputs in pieces; %d inputs without an end; %d lines of a dialogue; '
-          '%.0f seconds' % (
-        *failed, *others, time.monotonic() - began))
+    print(
+        '%d reads and %d writes failed in turn; %d inputs in pieces; %d inputs without an end; %d lines of a dialogue; '
+        '%.0f seconds' % (*failed, *others, time.monotonic() - began)
+    )
     return 0
 
 

@@ -39,19 +39,27 @@ def assessed(nonobench, folder, *words):
 @pytest.mark.parametrize(('text', 'answer'), rows('assess'))
 def test_puzzle(nonobench, text, answer, tmp_path):
     words, _, text = text.rpartition(' : ')
-    (tmp_path / 'file').write_bytes(printed(text[1:]) if text.startswith('=') else picture_of(text).encode())
+    (tmp_path / 'file').write_bytes(
+        printed(text[1:]) if text.startswith('=') else picture_of(text).encode()
+    )
     run = ended([nonobench, 'assess', tmp_path / 'file', *words.split()])
-    assert run == Ended(0 if answer.endswith('| fit') else 1, answer.replace(' | ', '\n').encode() + b'\n', b'')
+    assert run == Ended(
+        0 if answer.endswith('| fit') else 1, answer.replace(' | ', '\n').encode() + b'\n', b''
+    )
 
 
 def test_several(nonobench, folder):
     """A file that is refused has a line, and the others follow."""
     wanted = f'puzzle 1\n{RING}puzzle 2\n{CROSS}puzzle 3\nrefused ppm Truncated at byte 3\npuzzle 4\n{RING}'
-    assert assessed(nonobench, folder, 'ring', 'cross', 'short', 'ring') == Ended(1, wanted.encode(), b'')
+    assert assessed(nonobench, folder, 'ring', 'cross', 'short', 'ring') == Ended(
+        1, wanted.encode(), b''
+    )
 
 
 def test_all_fit(nonobench, folder):
-    assert assessed(nonobench, folder, 'ring', 'ring') == Ended(0, f'puzzle 1\n{RING}puzzle 2\n{RING}'.encode(), b'')
+    assert assessed(nonobench, folder, 'ring', 'ring') == Ended(
+        0, f'puzzle 1\n{RING}puzzle 2\n{RING}'.encode(), b''
+    )
 
 
 @pytest.mark.parametrize('others', [[], ['ring'], ['cross']])
@@ -61,11 +69,15 @@ def test_unread(nonobench, folder, others):
     names = ['absent', *others]
     head = 'puzzle {}\n' if others else ''
     wanted = ''.join(head.format(number) + blocks[name] for number, name in enumerate(names, 1))
-    assert assessed(nonobench, folder, *names) == Ended(3, wanted.encode(), b'nonobench: read failed\n')
+    assert assessed(nonobench, folder, *names) == Ended(
+        3, wanted.encode(), b'nonobench: read failed\n'
+    )
 
 
 def test_too_long(nonobench, folder):
-    assert assessed(nonobench, folder, 'long', 'ring') == Ended(1, f'puzzle 1\nrefused too long\npuzzle 2\n{RING}'.encode(), b'')
+    assert assessed(nonobench, folder, 'long', 'ring') == Ended(
+        1, f'puzzle 1\nrefused too long\npuzzle 2\n{RING}'.encode(), b''
+    )
 
 
 # The files beside the cross, and its block.
@@ -76,7 +88,12 @@ BESIDE = {
     ('--givens', 'outside'): 'refused givens Place at line 1\n',
     ('--givens', 'corner', '--certificate', 'cert'): HELD + 'fit\n',
     ('--givens', 'both', '--certificate', 'cert'): TWICE + 'flaw spare 2 2\nunfit\n',
-    ('--givens', 'none', '--certificate', 'cert'): 'refused certificate UnpublishedGiven at line 2\n',
+    (
+        '--givens',
+        'none',
+        '--certificate',
+        'cert',
+    ): 'refused certificate UnpublishedGiven at line 2\n',
     ('--certificate', 'cert'): 'refused certificate UnpublishedGiven at line 2\n',
     ('--certificate', 'corner'): 'refused certificate NotCert at line 1\n',
 }
@@ -85,7 +102,9 @@ BESIDE = {
 @pytest.mark.parametrize('words', BESIDE)
 def test_beside(nonobench, folder, words):
     wanted = BESIDE[words]
-    assert assessed(nonobench, folder, 'cross', *words) == Ended(0 if wanted.endswith('\nfit\n') else 1, wanted.encode(), b'')
+    assert assessed(nonobench, folder, 'cross', *words) == Ended(
+        0 if wanted.endswith('\nfit\n') else 1, wanted.encode(), b''
+    )
 
 
 # Words that are refused before a file is opened, and what is said.
@@ -99,15 +118,27 @@ REFUSED = {
 
 @pytest.mark.parametrize('words', REFUSED)
 def test_refused(nonobench, folder, words):
-    assert assessed(nonobench, folder, *words) == Ended(2, b'', f'nonobench: {REFUSED[words]}\n'.encode())
+    assert assessed(nonobench, folder, *words) == Ended(
+        2, b'', f'nonobench: {REFUSED[words]}\n'.encode()
+    )
 
 
-@pytest.mark.parametrize('words', [[], ['ring', '--allow', '100000'], ['ring', '--allow', 'off'], ['ring', '--format', 'png']])
+@pytest.mark.parametrize(
+    'words',
+    [[], ['ring', '--allow', '100000'], ['ring', '--allow', 'off'], ['ring', '--format', 'png']],
+)
 def test_words(nonobench, folder, words):
     run = assessed(nonobench, folder, *words)
     assert (run.status, run.wrote) == (2, b'')
 
 
-@pytest.mark.parametrize('words', [('--givens', 'absent'), ('--certificate', 'absent'), ('--givens', 'corner', '--certificate', 'absent')])
+@pytest.mark.parametrize(
+    'words',
+    [
+        ('--givens', 'absent'),
+        ('--certificate', 'absent'),
+        ('--givens', 'corner', '--certificate', 'absent'),
+    ],
+)
 def test_unread_beside(nonobench, folder, words):
     assert assessed(nonobench, folder, 'ring', *words) == Ended(3, b'', b'nonobench: read failed\n')

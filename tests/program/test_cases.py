@@ -18,7 +18,11 @@ def printed(text):
     """The bytes of a text with escapes, as printf has them."""
     parts = re.split(r'\\(x[0-9a-f]{2}|.)', text)
     return b''.join(
-        part.encode() if at % 2 == 0 else bytes.fromhex(part[1:]) if part[0] == 'x' else ESCAPED[part]
+        part.encode()
+        if at % 2 == 0
+        else bytes.fromhex(part[1:])
+        if part[0] == 'x'
+        else ESCAPED[part]
         for at, part in enumerate(parts)
     )
 
@@ -73,7 +77,9 @@ def check_of(place, text):
 
 
 def givens_of(place, text):
-    givens, picture, cert = put(place, givens=printed(text), picture=picture_of('a./.a'), cert=DIAGONAL_CERT)
+    givens, picture, cert = put(
+        place, givens=printed(text), picture=picture_of('a./.a'), cert=DIAGONAL_CERT
+    )
     return ['check', '--givens', givens, picture, cert], b''
 
 
@@ -107,7 +113,11 @@ def hint_of(program, text):
     return 'nonobench: its lines end with CR LF, and must end with LF alone\n' if is_hinted else ''
 
 
-ASKED = [pytest.param(kind, *row.values, marks=row.marks, id=row.id) for kind in CALLS for row in rows(kind)]
+ASKED = [
+    pytest.param(kind, *row.values, marks=row.marks, id=row.id)
+    for kind in CALLS
+    for row in rows(kind)
+]
 
 
 @pytest.mark.parametrize(('kind', 'text', 'answer'), ASKED)
@@ -130,6 +140,9 @@ def test_proved(program, text, answer, tmp_path):
         elif answer == 'certificate':
             assert (run.status, run.said) == (0, b'')
             count = f', givens {len(named.split())}' if named else ''
-            answered(ended([program.path, 'check', *givens, picture, *put(tmp_path, cert=run.wrote)]), f'certificate accepted{count}')
+            answered(
+                ended([program.path, 'check', *givens, picture, *put(tmp_path, cert=run.wrote)]),
+                f'certificate accepted{count}',
+            )
         else:
             assert run == Ended(1, f'{answer}\n'.encode(), b'')

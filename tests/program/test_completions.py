@@ -29,8 +29,20 @@ def bash(tmp_path):
         (tmp_path / name).touch()
 
     def offered(*words):
-        words = ['bash', '-c', BASH, 'bash', ROOT / 'completions' / 'nonobench.bash', 'nonobench', *words]
-        return set(subprocess.run(words, cwd=tmp_path, capture_output=True, text=True, check=True).stdout.split('\n')) - {''}
+        words = [
+            'bash',
+            '-c',
+            BASH,
+            'bash',
+            ROOT / 'completions' / 'nonobench.bash',
+            'nonobench',
+            *words,
+        ]
+        return set(
+            subprocess.run(
+                words, cwd=tmp_path, capture_output=True, text=True, check=True
+            ).stdout.split('\n')
+        ) - {''}
 
     return offered
 
@@ -41,7 +53,16 @@ def zsh():
     needs('zsh')
 
     def handed(*words):
-        words = ['zsh', '-f', '-c', ZSH, 'zsh', ROOT / 'completions' / '_nonobench', 'nonobench', *words]
+        words = [
+            'zsh',
+            '-f',
+            '-c',
+            ZSH,
+            'zsh',
+            ROOT / 'completions' / '_nonobench',
+            'nonobench',
+            *words,
+        ]
         return subprocess.run(words, capture_output=True, text=True, check=True).stdout.splitlines()
 
     return handed
@@ -72,7 +93,9 @@ def test_values_in_bash(nonobench, bash):
 
 def test_words_in_zsh(nonobench, zsh):
     commands = commands_of(nonobench)
-    assert {word for words in matches(r'^1:command:\((.*)\)$', zsh('')) for word in words.split(' ')} == commands
+    assert {
+        word for words in matches(r'^1:command:\((.*)\)$', zsh('')) for word in words.split(' ')
+    } == commands
     assert matches(r'^(--[a-z]*)\[', zsh('')) == options_of(nonobench)
 
 
@@ -85,11 +108,21 @@ def test_options_and_files_in_zsh(nonobench, zsh):
         valued = {words[1] for words in known if len(words) > 2}
         assert matches(r'^(--[a-z]*)\[[^]]*\]$', lines) == plain, command
         assert matches(r'^(--[a-z]*)\[[^]]*\]:', lines) == valued, command
-        files = [words for words in known if len(words) == 2 and not words[1].startswith('--') and words[0] != 'word']
-        assert matches(r'^([0-9]*):.*:_files$', lines) == {str(at + 2) for at in range(len(files))}, command
+        files = [
+            words
+            for words in known
+            if len(words) == 2 and not words[1].startswith('--') and words[0] != 'word'
+        ]
+        assert matches(r'^([0-9]*):.*:_files$', lines) == {
+            str(at + 2) for at in range(len(files))
+        }, command
 
 
 def test_formats_in_zsh(nonobench, zsh):
     for command in ('work', 'prove', 'assess'):
-        offered = {word for words in matches(r'^--format.*:\((.*)\)$', zsh(command, '')) for word in words.split(' ')}
+        offered = {
+            word
+            for words in matches(r'^--format.*:\((.*)\)$', zsh(command, ''))
+            for word in words.split(' ')
+        }
         assert offered == formats_of(nonobench, command)

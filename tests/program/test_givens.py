@@ -6,7 +6,9 @@ from tried import Ended, ended
 
 def checked(program, folder, givens, picture=picture_of('a./.a'), cert=DIAGONAL_CERT):
     """How a check of these texts ends."""
-    return ended([program.path, 'check', '--givens', *put(folder, givens=givens, picture=picture, cert=cert)])
+    return ended(
+        [program.path, 'check', '--givens', *put(folder, givens=givens, picture=picture, cert=cert)]
+    )
 
 
 def said(line):
@@ -26,7 +28,11 @@ def test_order(program, tmp_path):
 def test_first_given_that_is_not_published(program, tmp_path):
     """Its line is that of the certificate. The certificate without givens needs none that are published."""
     all_given = 'nonocert 2\ngiven 1 1\ngiven 1 2\ngiven 2 1\ngiven 2 2\ndone\n'
-    assert checked(program, tmp_path, b'given 1 1\ngiven 2 2\n', cert=all_given) == said('certificate UnpublishedGiven at line 3')
-    plain = 'nonocert 1\nline r 1\nsplit 1 1\nline c 1\ndead r 2\nline r 1\nline c 1\nline c 2\ndone\n'
+    assert checked(program, tmp_path, b'given 1 1\ngiven 2 2\n', cert=all_given) == said(
+        'certificate UnpublishedGiven at line 3'
+    )
+    plain = (
+        'nonocert 1\nline r 1\nsplit 1 1\nline c 1\ndead r 2\nline r 1\nline c 1\nline c 2\ndone\n'
+    )
     run = checked(program, tmp_path, b'', picture=picture_of('a./.b'), cert=plain)
     assert run == Ended(0, b'certificate accepted\n', b'')

@@ -74,7 +74,10 @@ def test_commands_of_a_session():
         for line in section('COMMANDS OF A SESSION', r'^\.Sh')
         if line.startswith('.It Ic')
     }
-    heads = (re.match(r'- (?:`[^`]*`(?:, )?)+: ', line) for line in part_of_formats('Commands of a session'))
+    heads = (
+        re.match(r'- (?:`[^`]*`(?:, )?)+: ', line)
+        for line in part_of_formats('Commands of a session')
+    )
     known = {command for head in heads if head for command in re.findall(r'`([^`]*)`', head[0])}
     assert len(known) > 10
     assert told == known
@@ -82,15 +85,28 @@ def test_commands_of_a_session():
 
 def test_names_of_refusals():
     lines = (line.split() for line in section('Refusals', r'^\.S[hs]'))
-    told = {parts[1] for parts in lines if parts[0] == '.Ql' and len(parts) < 4 and parts[1][0].isupper()}
-    known = set(re.findall(r'refused: ([A-Za-z]+)', (ROOT / 'crates' / 'session' / 'src' / 'refusal.rt').read_text()))
+    told = {
+        parts[1]
+        for parts in lines
+        if parts[0] == '.Ql' and len(parts) < 4 and parts[1][0].isupper()
+    }
+    known = set(
+        re.findall(
+            r'refused: ([A-Za-z]+)',
+            (ROOT / 'crates' / 'session' / 'src' / 'refusal.rt').read_text(),
+        )
+    )
     assert known
     assert told == known
 
 
 def test_lines_on_standard_error():
     """A paint cannot be asked for on the command line, so its refusal is not in the page."""
-    told = {line.removeprefix('.It ') for line in section('DIAGNOSTICS') if line.startswith('.It nonobench: ')}
+    told = {
+        line.removeprefix('.It ')
+        for line in section('DIAGNOSTICS')
+        if line.startswith('.It nonobench: ')
+    }
     heads = (re.match(r'- `(nonobench: [^`]*)`: ', line) for line in part_of_formats('The program'))
     known = {head[1] for head in heads if head and ': edit ' not in head[1]}
     assert known

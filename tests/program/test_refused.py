@@ -11,7 +11,9 @@ from tried import BUILT, ROOT, ended, needs, needs_file, once, passes
 
 HERE = Path(__file__).parent
 CRATE = ROOT / 'crates' / 'refused'
-SUBJECTS = sorted(file.stem.removeprefix('of_') for file in (CRATE / 'src' / 'tests').glob('of_*.rt'))
+SUBJECTS = sorted(
+    file.stem.removeprefix('of_') for file in (CRATE / 'src' / 'tests').glob('of_*.rt')
+)
 # The runs in which a full CI refuses growths; tests/program/refuse_growths.py alone tries all.
 RUNS = ('words', 'diagonal', 'given', 'day', 'parts', 'report', 'goal', 'allowance')
 MOST = 10000
@@ -55,7 +57,9 @@ def test_growths_of_the_library(refusing, refused_tests, subject):
             stdin=subprocess.DEVNULL,
             text=True,
         )
-        assert run.returncode == 0, f'growth {number}: the test that calls again fails: {run.stdout[-500:]}'
+        assert (
+            run.returncode == 0
+        ), f'growth {number}: the test that calls again fails: {run.stdout[-500:]}'
         if 'refused' not in run.stdout.splitlines():
             assert number > 1, 'none is refused'
             return
@@ -67,10 +71,18 @@ def test_growths_of_the_library(refusing, refused_tests, subject):
 @pytest.mark.parametrize('run', RUNS)
 def test_growths_of_the_program(kept, run):
     needs('cc')
-    passes([sys.executable, HERE / 'refuse_growths.py', run], env={'PROGRAM': str(kept.program('nonobench'))})
+    passes(
+        [sys.executable, HERE / 'refuse_growths.py', run],
+        env={'PROGRAM': str(kept.program('nonobench'))},
+    )
 
 
 @pytest.mark.all
-@pytest.mark.parametrize('kind', [BUILT[0], pytest.param(BUILT[1], marks=pytest.mark.toolchain)], ids=('llvm', 'rattle'))
+@pytest.mark.parametrize(
+    'kind', [BUILT[0], pytest.param(BUILT[1], marks=pytest.mark.toolchain)], ids=('llvm', 'rattle')
+)
 def test_streams(kept, kind):
-    passes([sys.executable, HERE / 'refuse_streams.py'], env={'PROGRAM': str(kept.program(f'nonobench{kind}'))})
+    passes(
+        [sys.executable, HERE / 'refuse_streams.py'],
+        env={'PROGRAM': str(kept.program(f'nonobench{kind}'))},
+    )

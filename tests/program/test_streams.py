@@ -51,7 +51,9 @@ def test_no_input(program):
 
 def test_what_cannot_be_said_leaves_the_status(program, tmp_path):
     assert in_shell(program, '2>&-') == Ended(1, b'', b'')
-    assert in_shell(program, '2>/dev/full', [tmp_path / 'none', tmp_path / 'none']) == Ended(2, b'', b'')
+    assert in_shell(program, '2>/dev/full', [tmp_path / 'none', tmp_path / 'none']) == Ended(
+        2, b'', b''
+    )
     assert in_shell(program, '<. 2>/dev/full', cwd=tmp_path) == Ended(3, b'', b'')
 
 
@@ -60,7 +62,10 @@ def test_nobody_reads_on(program, tmp_path):
     (tmp_path / 'lines').write_bytes(b'verdict\n' * 100000)
     with open(tmp_path / 'lines', 'rb') as lines:
         run = subprocess.Popen(
-            [program.path, 'work', tmp_path / 'file'], stdin=lines, stdout=subprocess.PIPE, stderr=subprocess.PIPE
+            [program.path, 'work', tmp_path / 'file'],
+            stdin=lines,
+            stdout=subprocess.PIPE,
+            stderr=subprocess.PIPE,
         )
     first = run.stdout.readline()
     run.stdout.close()
@@ -80,7 +85,9 @@ def test_room_for_1024_bytes(program, tmp_path):
 
 def test_the_longest_input_and_one_byte_more(program):
     longest = b'P3' + b' ' * 16777214
-    assert ended([program.path], longest) == Ended(1, b'', b'nonobench: ppm Truncated at byte 16777216\n')
+    assert ended([program.path], longest) == Ended(
+        1, b'', b'nonobench: ppm Truncated at byte 16777216\n'
+    )
     assert ended([program.path], longest + b' ') == Ended(1, b'', b'nonobench: input too long\n')
 
 
@@ -94,4 +101,6 @@ def test_more_bytes_than_a_session_may_make_reads(program, tmp_path):
     (tmp_path / 'file').write_bytes(PIXEL)
     (tmp_path / 'lines').write_bytes(b'\n' * 1048577 + b'undo\n')
     with open(tmp_path / 'lines', 'rb') as lines:
-        assert ended([program.path, 'work', tmp_path / 'file'], stdin=lines) == Ended(0, b'refused: UndoEmpty\n', b'')
+        assert ended([program.path, 'work', tmp_path / 'file'], stdin=lines) == Ended(
+            0, b'refused: UndoEmpty\n', b''
+        )

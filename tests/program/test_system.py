@@ -19,12 +19,16 @@ CALL = re.compile(r'\b(?:env|fs|io)::[a-z]\w*\([^()]*\)|\b(?:file|reader|rt)\.[a
 
 
 def test_calls():
-    code = [re.sub(r'//.*', '', file.read_text(encoding='utf-8')) for file in (ROOT / 'crates' / 'nonobench' / 'src').glob('*.rt')]
+    code = [
+        re.sub(r'//.*', '', file.read_text(encoding='utf-8'))
+        for file in (ROOT / 'crates' / 'nonobench' / 'src').glob('*.rt')
+    ]
     assert sorted(CALL.findall('\n'.join(code))) == CALLS
 
 
 def test_a_name_stays_as_it_is(kept, tmp_path):
     """Blanks, points and line feeds belong to a name: only the file that is called so is opened."""
+
     def status(name):
         return ended([kept.program('nonobench'), 'work', name], cwd=tmp_path).status
 

@@ -8,7 +8,11 @@ import re
 import pytest
 from tried import BUILT, ROOT, ended, needs_file
 
-TABLES = [(folder, file) for folder in ('tables', 'search_tables') for file in sorted((ROOT / 'tests' / folder).glob('*.table'))]
+TABLES = [
+    (folder, file)
+    for folder in ('tables', 'search_tables')
+    for file in sorted((ROOT / 'tests' / folder).glob('*.table'))
+]
 
 
 @pytest.mark.toolchain

@@ -22,7 +22,9 @@ TOO_LONG = b'nonobench: input too long\n'
 
 def test_certificates_of_the_examples(program):
     for name, wrote in (('diagonal', YES), ('given', b'certificate accepted, givens 1\n')):
-        assert ended([program.path, 'check', EXAMPLES / f'{name}.ppm', EXAMPLES / f'{name}.cert']) == Ended(0, wrote, b'')
+        assert ended(
+            [program.path, 'check', EXAMPLES / f'{name}.ppm', EXAMPLES / f'{name}.cert']
+        ) == Ended(0, wrote, b'')
 
 
 def test_clues_of_the_heart(program):
@@ -36,11 +38,29 @@ def test_clues_of_the_heart(program):
 # The command, the picture, the certificate (or None), further words, and how it ends.
 CHECKS = {
     'no picture to prove': ('prove', 'P6', None, [], Ended(1, b'', NO_PICTURE)),
-    'a background of a proof that is none': ('prove', PIXEL, None, ['--background', '1,2'], Ended(2, b'', NO_BACKGROUND)),
+    'a background of a proof that is none': (
+        'prove',
+        PIXEL,
+        None,
+        ['--background', '1,2'],
+        Ended(2, b'', NO_BACKGROUND),
+    ),
     'no picture by the old name': ('verify', 'P6', '', [], Ended(1, b'', NO_PICTURE)),
-    'no background by the old name': ('verify', PIXEL, '', ['--background', '1,2'], Ended(2, b'', NO_BACKGROUND)),
+    'no background by the old name': (
+        'verify',
+        PIXEL,
+        '',
+        ['--background', '1,2'],
+        Ended(2, b'', NO_BACKGROUND),
+    ),
     'no picture and no certificate': ('check', 'P6', '', [], Ended(1, b'', NO_PICTURE)),
-    'a background': ('check', PIXEL, 'nonocert 1\nline r 1\ndone\n', ['--background', '0,00,0'], Ended(0, YES, b'')),
+    'a background': (
+        'check',
+        PIXEL,
+        'nonocert 1\nline r 1\ndone\n',
+        ['--background', '0,00,0'],
+        Ended(0, YES, b''),
+    ),
     'a background over the maxval': (
         'check',
         PIXEL,
@@ -48,7 +68,13 @@ CHECKS = {
         ['--background', '0,256,0'],
         Ended(1, b'', b'nonobench: ppm SampleOver at byte 7\n'),
     ),
-    'a background of three samples': ('check', TURNED, TURNED_CERT, ['--background', '10,20,30'], Ended(0, YES, b'')),
+    'a background of three samples': (
+        'check',
+        TURNED,
+        TURNED_CERT,
+        ['--background', '10,20,30'],
+        Ended(0, YES, b''),
+    ),
     'its colours turned round': (
         'check',
         TURNED,
@@ -57,7 +83,13 @@ CHECKS = {
         Ended(1, b'', b'nonobench: certificate NotDone at line 5\n'),
     ),
     **{
-        f'the background {word!r}': ('check', PIXEL, '', ['--background', word], Ended(2, b'', NO_BACKGROUND))
+        f'the background {word!r}': (
+            'check',
+            PIXEL,
+            '',
+            ['--background', word],
+            Ended(2, b'', NO_BACKGROUND),
+        )
         for word in ('1,2', '1,2,3,4', '1,2,x', '0,0,65536', '0,0,000001', '1, 2,3', '')
     },
 }
@@ -67,11 +99,16 @@ CHECKS = {
 def test_check(program, name, tmp_path):
     command, picture, cert, words, wanted = CHECKS[name]
     files = put(tmp_path, picture=picture, cert=cert or '')
-    assert ended([program.path, command, *files[:1 if cert is None else 2], *words]) == wanted
+    assert ended([program.path, command, *files[: 1 if cert is None else 2], *words]) == wanted
 
 
 # Each form by both names: the texts are of a black cell alone, which is the background.
-FORMS = ['nonocert 1\nline r 1\ndone\n', 'nonocert 2\nline r 1\ndone', 'nonolemma 1\nline c 1\ndone\n', 'nonolemma 2\nline r1 c1\ndone\n']
+FORMS = [
+    'nonocert 1\nline r 1\ndone\n',
+    'nonocert 2\nline r 1\ndone',
+    'nonolemma 1\nline c 1\ndone\n',
+    'nonolemma 2\nline r1 c1\ndone\n',
+]
 
 
 @pytest.mark.parametrize('command', ['check', 'verify'])
@@ -83,7 +120,9 @@ def test_each_form(program, command, cert, tmp_path):
 
 def test_background_between_the_files(program, tmp_path):
     picture, cert = put(tmp_path, picture=PIXEL, cert='nonocert 1\nline r 1\ndone\n')
-    assert ended([program.path, 'check', picture, '--background', '0,0,0', cert]) == Ended(0, YES, b'')
+    assert ended([program.path, 'check', picture, '--background', '0,0,0', cert]) == Ended(
+        0, YES, b''
+    )
 
 
 # Formats of a certificate that is made, and its first line.
@@ -100,8 +139,12 @@ def test_formats_of_certificates(program, words, background, tmp_path):
     first, *steps, done = run.wrote.splitlines()
     assert (first, done) == (FORMATS[words], b'done')
     if first == b'nonolemma 1':
-        assert all(re.fullmatch(rb'(line|dead) [rc] \d|part \d \d [.a]|done', step) for step in steps)
-    assert ended([program.path, 'check', picture, *put(tmp_path, cert=run.wrote), *background]) == Ended(0, YES, b'')
+        assert all(
+            re.fullmatch(rb'(line|dead) [rc] \d|part \d \d [.a]|done', step) for step in steps
+        )
+    assert ended(
+        [program.path, 'check', picture, *put(tmp_path, cert=run.wrote), *background]
+    ) == Ended(0, YES, b'')
 
 
 def test_format_that_is_none(program):
@@ -132,7 +175,9 @@ def test_files_of_givens_that_are_not_read(program, tmp_path):
     picture, cert, long = put(tmp_path, picture='P6', cert='x', long=b'\n' * 16777217)
     none = tmp_path / 'none'
     assert ended([program.path, 'check', picture, cert, '--givens', none]) == Ended(3, b'', UNREAD)
-    assert ended([program.path, 'check', picture, cert, '--givens', long]) == Ended(1, b'', TOO_LONG)
+    assert ended([program.path, 'check', picture, cert, '--givens', long]) == Ended(
+        1, b'', TOO_LONG
+    )
     assert ended([program.path, 'check', picture, none, '--givens', long]) == Ended(3, b'', UNREAD)
     assert ended([program.path, 'check', long, none, '--givens', none]) == Ended(1, b'', TOO_LONG)
 
@@ -140,14 +185,27 @@ def test_files_of_givens_that_are_not_read(program, tmp_path):
 def deep(edits):
     """So many edits and one more, then an undo for each."""
     paints = [f'paint 1 1 {"a" if edit % 2 else "."}\n' for edit in range(edits + 1)]
-    return ''.join(paints) + 'undo\n' * (edits + 1), 'ok\n' * (2 * edits + 1) + 'refused: UndoEmpty\n'
+    return (
+        ''.join(paints) + 'undo\n' * (edits + 1),
+        'ok\n' * (2 * edits + 1) + 'refused: UndoEmpty\n',
+    )
 
 
 # A session: the file, the lines, further words, and how it ends.
 WORK = {
-    'a refused command': (THREE, 'undo\nverdict', [], Ended(0, b'refused: UndoEmpty\nunique\n', b'')),
+    'a refused command': (
+        THREE,
+        'undo\nverdict',
+        [],
+        Ended(0, b'refused: UndoEmpty\nunique\n', b''),
+    ),
     'no command': (PIXEL, '', [], Ended(0, b'', b'')),
-    'a background': (PIXEL, 'clues\n', ['--background', '0,0,0'], Ended(0, b'r 1: 0\nc 1: 0\n', b'')),
+    'a background': (
+        PIXEL,
+        'clues\n',
+        ['--background', '0,0,0'],
+        Ended(0, b'r 1: 0\nc 1: 0\n', b''),
+    ),
     'a short history': (
         THREE,
         'paint 1 1 .\npaint 1 1 a\nundo\nundo\n',
@@ -161,7 +219,12 @@ WORK = {
         Ended(0, b'r 1: 2a\nc 1: 0\nc 2: 1a\nc 3: 1a\n', b''),
     ),
     'a puzzle as a picture': (SQUARE, 'clues\n', [], Ended(1, b'', NO_PICTURE)),
-    'a bad background before a puzzle': (SQUARE, '', ['--background', '1,2', '--format', 'non'], Ended(2, b'', NO_BACKGROUND)),
+    'a bad background before a puzzle': (
+        SQUARE,
+        '',
+        ['--background', '1,2', '--format', 'non'],
+        Ended(2, b'', NO_BACKGROUND),
+    ),
     'a background of a puzzle': (
         SQUARE,
         '',
@@ -170,8 +233,17 @@ WORK = {
     ),
 }
 # A hundred edits can be undone where no number is given.
-for edits, words in ((100, []), (1000, ['--history=1000']), (5, ['--format', 'ppm', '--history', '05'])):
-    WORK[f'a history of {edits}'] = (PIXEL, deep(edits)[0], words, Ended(0, deep(edits)[1].encode(), b''))
+for edits, words in (
+    (100, []),
+    (1000, ['--history=1000']),
+    (5, ['--format', 'ppm', '--history', '05']),
+):
+    WORK[f'a history of {edits}'] = (
+        PIXEL,
+        deep(edits)[0],
+        words,
+        Ended(0, deep(edits)[1].encode(), b''),
+    )
 
 
 @pytest.mark.parametrize('name', WORK)
@@ -191,14 +263,18 @@ def test_what_a_session_printed_is_accepted(program, tmp_path):
         assert run.wrote.startswith(b'ok\n' * 5)
         written.append(run.wrote.removeprefix(b'ok\n' * 5))
     pair = put(tmp_path, picture=written[0], cert=written[1])
-    assert ended([program.path, 'check', *pair, *background]) == Ended(0, b'certificate accepted, givens 1\n', b'')
+    assert ended([program.path, 'check', *pair, *background]) == Ended(
+        0, b'certificate accepted, givens 1\n', b''
+    )
 
 
 def test_path_with_a_blank_behind_other_words(program, tmp_path):
     folder = tmp_path / 'a folder'
     folder.mkdir()
     words = ['--background', '0,0,0', '--history', '1', *put(folder, file=THREE)]
-    assert ended([program.path, 'work', *words], 'clues\n') == Ended(0, b'r 1: 0\nr 2: 1a\nc 1: 0\nc 2: 1a\n', b'')
+    assert ended([program.path, 'work', *words], 'clues\n') == Ended(
+        0, b'r 1: 0\nr 2: 1a\nc 1: 0\nc 2: 1a\n', b''
+    )
 
 
 def test_words_before_files(program, tmp_path):
@@ -207,7 +283,9 @@ def test_words_before_files(program, tmp_path):
     assert ended([program.path, 'work', none, '--format', 'non', '--background', '1,2,3']) == Ended(
         2, b'', b'nonobench: background goes with ppm\n'
     )
-    assert ended([program.path, 'work', b'\xff']) == Ended(2, b'', b'nonobench: a word is not UTF-8\n')
+    assert ended([program.path, 'work', b'\xff']) == Ended(
+        2, b'', b'nonobench: a word is not UTF-8\n'
+    )
 
 
 # Words that are not taken, with a line of what is said.
@@ -227,14 +305,29 @@ REFUSED = {
         ['work', 'one', '--history', ''],
         "error: invalid value '' for '--history <N>': cannot parse integer from empty string",
     ),
-    'a history below none': (['work', 'one', '--history', '-1'], "error: unexpected argument '-1' found"),
-    'another format': (['work', 'one', '--format', 'gif'], "error: invalid value 'gif' for '--format <FORMAT>'"),
+    'a history below none': (
+        ['work', 'one', '--history', '-1'],
+        "error: unexpected argument '-1' found",
+    ),
+    'another format': (
+        ['work', 'one', '--format', 'gif'],
+        "error: invalid value 'gif' for '--format <FORMAT>'",
+    ),
     'no file is named': (['work'], 'error: the following required arguments were not provided:'),
     'an unknown word': (['clues'], "error: unrecognized subcommand 'clues'"),
     'an empty word': ([''], "error: unrecognized subcommand ''"),
-    'no word behind the dashes': (['--'], "error: 'nonobench' requires a subcommand but one was not provided"),
-    'a word is missing': (['check', 'one'], 'error: the following required arguments were not provided:'),
-    'a word too many': (['check', 'one', 'two', 'three'], "error: unexpected argument 'three' found"),
+    'no word behind the dashes': (
+        ['--'],
+        "error: 'nonobench' requires a subcommand but one was not provided",
+    ),
+    'a word is missing': (
+        ['check', 'one'],
+        'error: the following required arguments were not provided:',
+    ),
+    'a word too many': (
+        ['check', 'one', 'two', 'three'],
+        "error: unexpected argument 'three' found",
+    ),
 }
 
 
@@ -276,4 +369,6 @@ def test_each_front_of_a_picture_is_refused_where_it_ends(program):
     edited = 'P3\n# made by an editor\n1 1\n255\n0\n0\n0'
     for size in range(len(edited)):
         fault = 'NotP3 at byte 0' if size < 2 else f'Truncated at byte {size}'
-        assert ended([program.path], edited[:size]) == Ended(1, b'', f'nonobench: ppm {fault}\n'.encode()), size
+        assert ended([program.path], edited[:size]) == Ended(
+            1, b'', f'nonobench: ppm {fault}\n'.encode()
+        ), size

@@ -25,7 +25,14 @@ from reference.assessments import Assessment, Solving, by_listing  # noqa: E402
 from reference.lines import clues_of, letter, settled  # noqa: E402
 from reference.pictures import Document, read_ppm, write_ppm  # noqa: E402
 from reference.search import TooMuch, open_cells  # noqa: E402
-from reference.sessions import Disagreement, Output, Session, agree, must_assess, picture_rows  # noqa: E402
+from reference.sessions import (
+    Disagreement,
+    Output,
+    Session,
+    agree,
+    must_assess,
+    picture_rows,
+)  # noqa: E402
 from small_pictures import TRIPLES, Listing, blank_ppm, key_of  # noqa: E402
 
 GIVENS = ((2, 2, 3), (2, 3, 3), (3, 3, 2))  # height, width, colours
@@ -54,12 +61,24 @@ class Library:
         """Opens a P3 picture, in place of the one that is open."""
         if self.handle.value:
             self.must(self.calls.nonobench_close(self.at, self.handle))
-        self.must(self.calls.nonobench_open(self.at, text, ctypes.c_size_t(len(text)), False, background,
-                                            ctypes.c_size_t(len(background)), 1, ctypes.byref(self.handle)))
+        self.must(
+            self.calls.nonobench_open(
+                self.at,
+                text,
+                ctypes.c_size_t(len(text)),
+                False,
+                background,
+                ctypes.c_size_t(len(background)),
+                1,
+                ctypes.byref(self.handle),
+            )
+        )
 
     def say(self, lines):
         """What a session answers to lines."""
-        self.must(self.calls.nonobench_say(self.at, self.handle, lines, ctypes.c_size_t(len(lines))))
+        self.must(
+            self.calls.nonobench_say(self.at, self.handle, lines, ctypes.c_size_t(len(lines)))
+        )
         size = self.take()
         if size > len(self.room):
             self.room = ctypes.create_string_buffer(size)
@@ -104,24 +123,42 @@ class Way:
         givens, document = self.givens, Document(255, self.colours, self.rows, self.givens)
 
         def verdict(chosen):
-            return 'ambiguous' if any(chosen.isdisjoint(cells) for cells in others.values()) else 'unique'
+            return (
+                'ambiguous'
+                if any(chosen.isdisjoint(cells) for cells in others.values())
+                else 'unique'
+            )
 
         def must_be_other(said):
-            agree(tuple(said) in others and givens.isdisjoint(others[tuple(said)]), f'not another picture: {said}')
+            agree(
+                tuple(said) in others and givens.isdisjoint(others[tuple(said)]),
+                f'not another picture: {said}',
+            )
 
         def judge(output):
             if 'assess' in self.asks:
-                agree(not must_assess(output, Assessment(document, named, verdict), must_be_other), 'no certificate is found')
+                agree(
+                    not must_assess(output, Assessment(document, named, verdict), must_be_other),
+                    'no certificate is found',
+                )
             if 'path' in self.asks:
                 output.must_lines(*Solving(document.rows, givens).path_lines())
-        self.lines += [f'{word} named' if word == 'assess' and named else word for word in self.asks]
+
+        self.lines += [
+            f'{word} named' if word == 'assess' and named else word for word in self.asks
+        ]
         self.asked.append(judge)
 
     def others(self, rows):
         """The other pictures with a picture's clues, as they are printed, each with the cells in which it differs."""
         same = self.listing.by_clues[key_of(clues_of(rows))]
-        return {tuple(picture_rows(other)): frozenset((r, c) for r, c in self.cells if other[r][c] != rows[r][c])
-                for other in same if other != rows}
+        return {
+            tuple(picture_rows(other)): frozenset(
+                (r, c) for r, c in self.cells if other[r][c] != rows[r][c]
+            )
+            for other in same
+            if other != rows
+        }
 
     def judge(self):
         """Asks what was prepared, and judges the answers."""
@@ -131,7 +168,9 @@ class Way:
             try:
                 judge(output)
             except Disagreement as found:
-                raise Disagreement(f'{found}, near {said[max(0, output.at - 200):output.at + 100].decode("latin-1")!r}') from None
+                raise Disagreement(
+                    f'{found}, near {said[max(0, output.at - 200):output.at + 100].decode("latin-1")!r}'
+                ) from None
         output.end()
         self.lines, self.asked = [], []
 
@@ -139,7 +178,10 @@ class Way:
 def all_givens(library, asks, height, width, colours):
     """All pictures of a size with all sets of givens; how many."""
     way = Way(library, asks, height, width, colours)
-    sets = [frozenset(itertools.compress(way.cells, chosen)) for chosen in itertools.product((0, 1), repeat=len(way.cells))]
+    sets = [
+        frozenset(itertools.compress(way.cells, chosen))
+        for chosen in itertools.product((0, 1), repeat=len(way.cells))
+    ]
     for number, rows in enumerate(way.listing.pictures):
         others = way.others(rows)
         for givens in sets:
@@ -169,14 +211,20 @@ class Judged(Session):
 
     def verdict_on(self, givens):
         """The verdict on the picture with other givens."""
-        return by_listing(self.document.rows)(givens) if self.allowance is None else super().verdict_on(givens)
+        return (
+            by_listing(self.document.rows)(givens)
+            if self.allowance is None
+            else super().verdict_on(givens)
+        )
 
 
 def some_samples(chance, maxval, near):
     """A colour by lot, often one that is near another."""
     if near is None or chance.random() < 0.4:
         return tuple(chance.randint(0, maxval) for _ in range(3))
-    far = chance.choice((2, 130, 5140, 10280)) * maxval // 65535 + 1  # as many 65535ths: a half, ten and twenty 255ths
+    far = (
+        chance.choice((2, 130, 5140, 10280)) * maxval // 65535 + 1
+    )  # as many 65535ths: a half, ten and twenty 255ths
     return tuple(min(max(sample + chance.randint(-far, far), 0), maxval) for sample in near)
 
 
@@ -199,12 +247,21 @@ def some_document(chance):
 def some_picture(chance, colours):
     """The rows of a picture by lot: of any, of one that lines leave open, or of one that they leave open and that has no other, if
     there is one among those that are drawn."""
-    drawn, wanted = chance.choice(((1, 'any'), (1, 'any'), (20, 'open'), (20, 'open'), (40, 'unique')))
+    drawn, wanted = chance.choice(
+        ((1, 'any'), (1, 'any'), (20, 'open'), (20, 'open'), (40, 'unique'))
+    )
     for _ in range(drawn):
-        height, width = (chance.choice((1, 2, 3, 4, 5, 5, 6, 6) if wanted == 'any' else (3, 4, 5, 6, 6)) for _ in range(2))
+        height, width = (
+            chance.choice((1, 2, 3, 4, 5, 5, 6, 6) if wanted == 'any' else (3, 4, 5, 6, 6))
+            for _ in range(2)
+        )
         weights = [chance.choice((1, 1, 1, 1, 0.6, 0.3, 0.2, 0.02)) for _ in range(colours)]
         rows = [chance.choices(range(colours), weights, k=width) for _ in range(height)]
-        if wanted != 'any' and Solving(rows, ()).open() and (wanted == 'open' or by_listing(rows)(()) == 'unique'):
+        if (
+            wanted != 'any'
+            and Solving(rows, ()).open()
+            and (wanted == 'open' or by_listing(rows)(()) == 'unique')
+        ):
             break
     return rows
 
@@ -221,7 +278,9 @@ def some_commands(chance, document, asks):
     """Edits by lot of a picture, by which its cells become givens; then what is asked for."""
     lines = [f'pin {row + 1} {col + 1}' for row, col in sorted(document.givens)]
     if chance.random() < 0.2:
-        lines.append('colour add %d %d %d' % some_samples(chance, document.maxval, document.colours[-1]))
+        lines.append(
+            'colour add %d %d %d' % some_samples(chance, document.maxval, document.colours[-1])
+        )
     if chance.random() < 0.1:
         lines += ['paint 1 1 a', 'delete row 1', 'insert column 1']
     if chance.random() < 0.3:
@@ -263,7 +322,9 @@ def main(path, *words):
     asks = [word for word in ASKS if word in words] or ASKS
     for part in [part for part in PARTS if part in words] or PARTS:
         try:
-            print(f'{part}: {PARTS[part](library, asks)} documents are answered as the reference says ({" and ".join(asks)})')
+            print(
+                f'{part}: {PARTS[part](library, asks)} documents are answered as the reference says ({" and ".join(asks)})'
+            )
         except (Disagreement, TooMuch) as wrong:
             print(f'{part}: {wrong}', file=sys.stderr)
             return 1
@@ -272,5 +333,7 @@ def main(path, *words):
 
 if __name__ == '__main__':
     if len(sys.argv) < 2 or not set(sys.argv[2:]) <= {*ASKS, *PARTS}:
-        sys.exit('usage: tests/references/assessments.py LIBRARY [assess] [path] [givens|lot|documents ..]')
+        sys.exit(
+            'usage: tests/references/assessments.py LIBRARY [assess] [path] [givens|lot|documents ..]'
+        )
     sys.exit(main(*sys.argv[1:]))

@@ -38,7 +38,9 @@ class Case:
 
 def sizes(chance):
     """The most cells a side and how many colours: mostly small pictures."""
-    most = chance.choice((2, 3, 4, 4, 5, 6, 8)) if chance.random() < 0.97 else chance.choice((30, 120))
+    most = (
+        chance.choice((2, 3, 4, 4, 5, 6, 8)) if chance.random() < 0.97 else chance.choice((30, 120))
+    )
     return most, chance.choice((1, 2, 2, 2, 3, 4, 16))
 
 
@@ -60,13 +62,20 @@ def check_case(chance):
     words = ['check', 'picture', 'cert']
     if background is not None:
         words += ['--background', '%d,%d,%d' % background]
-    return Case(words, {'picture': text, 'cert': cert}, lambda run: runs.check_run(run, text, cert, background))
+    return Case(
+        words,
+        {'picture': text, 'cert': cert},
+        lambda run: runs.check_run(run, text, cert, background),
+    )
 
 
 def work_case(chance):
     """A session on a picture."""
-    rows, triples, text = made.some_ppm(chance, chance.choice((2, 3, 3, 4, 4, 5, 6)) if chance.random() < 0.98 else 12,
-                                       chance.choice((2, 2, 2, 3, 4, 16)))
+    rows, triples, text = made.some_ppm(
+        chance,
+        chance.choice((2, 3, 3, 4, 4, 5, 6)) if chance.random() < 0.98 else 12,
+        chance.choice((2, 2, 2, 3, 4, 16)),
+    )
     if chance.random() < 0.05:
         text = made.mutated(chance, text, 1)
     commands = made.some_session(chance, rows, triples, chance.randint(5, 40))
@@ -75,8 +84,11 @@ def work_case(chance):
     words = ['work', 'picture', '--history', str(depth)]
     if background is not None:
         words += ['--background', '%d,%d,%d' % background]
-    return Case(words, {'picture': text, 'input': commands},
-                lambda run: runs.work_run(run, text, commands, background=background, depth=depth))
+    return Case(
+        words,
+        {'picture': text, 'input': commands},
+        lambda run: runs.work_run(run, text, commands, background=background, depth=depth),
+    )
 
 
 def non_case(chance):
@@ -84,8 +96,11 @@ def non_case(chance):
     text = made.some_non(chance, chance.choice((2, 3, 4, 5, 6)))
     text = made.mutated(chance, text, made.faults_wanted(chance))
     commands = b'write non\nverdict\nreport\ncertify\n'
-    return Case(['work', 'picture', '--format', 'non'], {'picture': text, 'input': commands},
-                lambda run: runs.work_run(run, text, commands, is_non=True))
+    return Case(
+        ['work', 'picture', '--format', 'non'],
+        {'picture': text, 'input': commands},
+        lambda run: runs.work_run(run, text, commands, is_non=True),
+    )
 
 
 def assess_case(chance):
@@ -97,35 +112,68 @@ def assess_case(chance):
         rows, (background, *_), text = made.some_ppm(chance, *sizes(chance))
         text = made.mutated(chance, text, made.faults_wanted(chance))
         places = [(row + 1, col + 1) for row in range(len(rows)) for col in range(len(rows[0]))]
-        cert, published = None, plain_forms.published_text(chance, places[:40], []) if chance.random() < 0.5 else None
-    return assessing(chance, [runs.Puzzle(text, chance.choice((None, background)), published=published, cert=cert)])
+        cert, published = (
+            None,
+            plain_forms.published_text(chance, places[:40], []) if chance.random() < 0.5 else None,
+        )
+    return assessing(
+        chance,
+        [runs.Puzzle(text, chance.choice((None, background)), published=published, cert=cert)],
+    )
 
 
 def several_case(chance):
     """Puzzles of one format, of which some may be refused or lack a file."""
     is_non = chance.random() < 0.5
     background = None if is_non else chance.choice((None, (255, 255, 255)))
-    texts = [made.some_non(chance, 5) if is_non else made.some_ppm(chance, 5, 3)[2] for _ in range(chance.randint(1, 4))]
-    texts = [made.mutated(chance, text, made.faults_wanted(chance)) if chance.random() < 0.9 else None for text in texts]
+    texts = [
+        made.some_non(chance, 5) if is_non else made.some_ppm(chance, 5, 3)[2]
+        for _ in range(chance.randint(1, 4))
+    ]
+    texts = [
+        made.mutated(chance, text, made.faults_wanted(chance)) if chance.random() < 0.9 else None
+        for text in texts
+    ]
     return assessing(chance, [runs.Puzzle(text, background, is_non) for text in texts])
 
 
 def assessing(chance, puzzles):
     """The assessment of puzzles, all of one format and with one background. A file is there only where it has a text."""
     first, allowance = puzzles[0], chance.choice((None, None, None, 0, 1, 5))
-    names = ['absent' if puzzle.text is None else f'puzzle{number}' for number, puzzle in enumerate(puzzles)]
+    names = [
+        'absent' if puzzle.text is None else f'puzzle{number}'
+        for number, puzzle in enumerate(puzzles)
+    ]
     files = {name: puzzle.text for name, puzzle in zip(names, puzzles) if puzzle.text is not None}
-    options = {'--format': 'non' if first.is_non else None, '--background': first.background and '%d,%d,%d' % first.background,
-               '--allow': None if allowance is None else str(allowance)}
-    for option, name, text in (('--givens', 'givens', first.published), ('--certificate', 'cert', first.cert)):
+    options = {
+        '--format': 'non' if first.is_non else None,
+        '--background': first.background and '%d,%d,%d' % first.background,
+        '--allow': None if allowance is None else str(allowance),
+    }
+    for option, name, text in (
+        ('--givens', 'givens', first.published),
+        ('--certificate', 'cert', first.cert),
+    ):
         if text is not None:
             options[option], files[name] = name, text
     words = [word for name, value in options.items() if value is not None for word in (name, value)]
-    return Case(['assess', *names, *words], files, lambda run: runs.assess_run(run, puzzles, allowance))
+    return Case(
+        ['assess', *names, *words], files, lambda run: runs.assess_run(run, puzzles, allowance)
+    )
 
 
-KINDS = {'clues': clues_case, 'check': check_case, 'work': work_case, 'non': non_case, 'assess': assess_case}
-NEEDS = {'work': 'work', 'non': 'work', 'assess': 'assess'}  # the command that the program must have
+KINDS = {
+    'clues': clues_case,
+    'check': check_case,
+    'work': work_case,
+    'non': non_case,
+    'assess': assess_case,
+}
+NEEDS = {
+    'work': 'work',
+    'non': 'work',
+    'assess': 'assess',
+}  # the command that the program must have
 
 
 class Fuzzer:
@@ -143,8 +191,14 @@ class Fuzzer:
         for name, text in case.files.items():
             with open(os.path.join(work, name), 'wb') as file:
                 file.write(text)
-        ended = subprocess.run([self.program, *case.words], cwd=work, input=case.files.get('input', b''),
-                               capture_output=True, timeout=PATIENCE, check=False)
+        ended = subprocess.run(
+            [self.program, *case.words],
+            cwd=work,
+            input=case.files.get('input', b''),
+            capture_output=True,
+            timeout=PATIENCE,
+            check=False,
+        )
         return runs.Run(ended.returncode, ended.stdout, ended.stderr)
 
     def one(self, kind, number, work):
@@ -169,7 +223,9 @@ class Fuzzer:
         if run is not None:
             files.update({'wrote': run.wrote, 'said': run.said})
         told = f'{message}\nstatus: {run and run.status}\nwords: {" ".join(case.words)}\n'
-        files['disagreement'] = (told + f'again: tests/references/fuzz.py 1 {self.seed} {kind} {number}\n').encode()
+        files['disagreement'] = (
+            told + f'again: tests/references/fuzz.py 1 {self.seed} {kind} {number}\n'
+        ).encode()
         for name, text in files.items():
             with open(os.path.join(place, name), 'wb') as file:
                 file.write(text)
@@ -179,8 +235,10 @@ class Fuzzer:
         """Tells how the cases ended."""
         for (kind, end), count in sorted(self.ends.items()):
             print(f'{kind}: {end}: {count}')
-        print(f'{done} cases, seed {self.seed}, {done / took:.0f} cases a second; program and reference disagree in '
-              f'{self.kept}' + (f', kept in {self.folder}' if self.kept else ''))
+        print(
+            f'{done} cases, seed {self.seed}, {done / took:.0f} cases a second; program and reference disagree in '
+            f'{self.kept}' + (f', kept in {self.folder}' if self.kept else '')
+        )
 
 
 def taken(program):
@@ -191,7 +249,9 @@ def taken(program):
 
 def main(amount, seed, *words):
     """Runs cases of each kind in turn until the time or the number is reached."""
-    program, folder = os.environ.get('PROGRAM', PROVED), os.environ.get('FUZZ_FOLDER', HERE / 'out' / 'disagreements')
+    program, folder = os.environ.get('PROGRAM', PROVED), os.environ.get(
+        'FUZZ_FOLDER', HERE / 'out' / 'disagreements'
+    )
     selftest.test()
     kinds = [word for word in words if word in KINDS]
     first = int(next((word for word in words if word.isdigit()), 0))
@@ -201,7 +261,9 @@ def main(amount, seed, *words):
     began = time.monotonic()
     done = 0
     signal.signal(signal.SIGTERM, signal.default_int_handler)
-    with tempfile.TemporaryDirectory(dir='/dev/shm' if os.access('/dev/shm', os.W_OK | os.X_OK) else None) as work:
+    with tempfile.TemporaryDirectory(
+        dir='/dev/shm' if os.access('/dev/shm', os.W_OK | os.X_OK) else None
+    ) as work:
         try:
             while done < int(amount) if seconds is None else time.monotonic() - began < seconds:
                 fuzzer.one(kinds[done % len(kinds)], first + done // len(kinds), work)

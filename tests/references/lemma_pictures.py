@@ -17,7 +17,15 @@ sys.path.insert(0, str(ROOT / 'tests/references'))
 from plain_forms import answer as plain_answer  # noqa: E402
 from small_pictures import PATIENCE, TRIPLES, Listing  # noqa: E402
 
-SIZES = ((1, 1, 2), (1, 5, 3), (5, 1, 3), (2, 2, 3), (2, 3, 3), (3, 3, 2), (3, 4, 2))  # height, width, colours
+SIZES = (
+    (1, 1, 2),
+    (1, 5, 3),
+    (5, 1, 3),
+    (2, 2, 3),
+    (2, 3, 3),
+    (3, 3, 2),
+    (3, 4, 2),
+)  # height, width, colours
 HEAD = 'nonolemma 2'
 
 
@@ -52,8 +60,15 @@ class Trial:
 
     def run(self, lines):
         """What the program prints of some lines."""
-        ended = subprocess.run([self.program], cwd=self.folder, input='\n'.join(lines) + '\n', text=True, capture_output=True,
-                               timeout=PATIENCE, check=True)
+        ended = subprocess.run(
+            [self.program],
+            cwd=self.folder,
+            input='\n'.join(lines) + '\n',
+            text=True,
+            capture_output=True,
+            timeout=PATIENCE,
+            check=True,
+        )
         return ended.stdout
 
     def file(self, name, text):
@@ -69,12 +84,17 @@ class Trial:
 
     def checked(self, pairs, unique):
         """Compares what both checkers say of pictures with certificates, which only unique ones can have. How many are taken."""
-        lines = [f'{name} {self.file(f"proof{at}", text)}' for at, (name, _, text) in enumerate(pairs)]
+        lines = [
+            f'{name} {self.file(f"proof{at}", text)}' for at, (name, _, text) in enumerate(pairs)
+        ]
         taken = 0
         for (name, rows, text), answer in zip(pairs, self.run(lines).splitlines(), strict=True):
             wanted = accepts(rows, text)
             taken += wanted
-            self.must((answer == 'accepted') == wanted and (name in unique or not wanted), f'{rows} {text!r}: {answer}')
+            self.must(
+                (answer == 'accepted') == wanted and (name in unique or not wanted),
+                f'{rows} {text!r}: {answer}',
+            )
         return taken
 
 
@@ -92,7 +112,9 @@ def changed(proof, others, chance):
     lines = proof.splitlines()
     for _ in range(chance.randrange(3)):
         at = chance.randrange(1, len(lines) + 1)
-        lines[at:at + chance.randrange(2)] = [chance.choice(chance.choice(others).splitlines()[1:])][:chance.randrange(2)]
+        lines[at : at + chance.randrange(2)] = [
+            chance.choice(chance.choice(others).splitlines()[1:])
+        ][: chance.randrange(2)]
     return '\n'.join(lines) + '\n'
 
 
@@ -113,9 +135,14 @@ def main():
         taken = trial.checked(proved, unique)
         trial.must(taken == len(proved), f'{len(proved) - taken} proofs are refused')
         proofs = [text for _, _, text in proved]
-        others = [(name, rows, changed(chance.choice(proofs), proofs, chance)) for name, rows, _ in pictures]
+        others = [
+            (name, rows, changed(chance.choice(proofs), proofs, chance))
+            for name, rows, _ in pictures
+        ]
         taken = trial.checked(others, unique)
-    print(f'{len(pictures)} pictures, {len(proved)} proofs, {taken} of {len(others)} others taken, {trial.failed} failed')
+    print(
+        f'{len(pictures)} pictures, {len(proved)} proofs, {taken} of {len(others)} others taken, {trial.failed} failed'
+    )
     return 1 if trial.failed or taken == len(others) else 0
 
 

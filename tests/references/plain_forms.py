@@ -118,7 +118,11 @@ def forces(clue, left):
     reached.pop()
     alive, found = {last, last - 1} if clue else {last}, []
     for here in reversed(reached):
-        here = {s for s in here if s in alive} if not found else {s for s in here if any(t in alive for t in after(s))}
+        here = (
+            {s for s in here if s in alive}
+            if not found
+            else {s for s in here if any(t in alive for t in after(s))}
+        )
         if not here:
             return None
         alive = here
@@ -134,12 +138,20 @@ class Puzzle:
         self.goal = [1 << colour for row in picture for colour in row]
         self.lines = {}
         for i, row in enumerate(picture):
-            self.lines['r', i + 1] = clue_of(row), [i * self.columns + j for j in range(self.columns)]
+            self.lines['r', i + 1] = clue_of(row), [
+                i * self.columns + j for j in range(self.columns)
+            ]
         for j, column in enumerate(zip(*picture)):
-            self.lines['c', j + 1] = clue_of(column), [i * self.columns + j for i in range(self.rows)]
+            self.lines['c', j + 1] = clue_of(column), [
+                i * self.columns + j for i in range(self.rows)
+            ]
 
     def cell(self, r, c):
-        return (r - 1) * self.columns + c - 1 if 1 <= r <= self.rows and 1 <= c <= self.columns else None
+        return (
+            (r - 1) * self.columns + c - 1
+            if 1 <= r <= self.rows and 1 <= c <= self.columns
+            else None
+        )
 
     def forced(self, facts, line):
         clue, cells = self.lines[line]
@@ -159,11 +171,21 @@ class Puzzle:
 
 # Reading.
 
-NUMBER, LEMMA, COLOURS = '(0|[1-9][0-9]{0,2})', '(0|[1-9][0-9]{0,4})', '(?=.)([.]?' + '?'.join(LETTERS[1:]) + '?)'
+NUMBER, LEMMA, COLOURS = (
+    '(0|[1-9][0-9]{0,2})',
+    '(0|[1-9][0-9]{0,4})',
+    '(?=.)([.]?' + '?'.join(LETTERS[1:]) + '?)',
+)
 GIVEN = re.compile(f'given {NUMBER} {NUMBER}')
 BOTH = {'line': f' ([rc]) {NUMBER}', 'dead': f' ([rc]) {NUMBER}', 'done': ''}
 TREE = {**BOTH, 'split': f' {NUMBER} {NUMBER}'}
-LEMMAS = {**BOTH, 'dead': f' (?:([rc]) {NUMBER}|(l) {LEMMA})', 'use': f' {LEMMA}', 'drop': f' {LEMMA}', 'lemma': ''}
+LEMMAS = {
+    **BOTH,
+    'dead': f' (?:([rc]) {NUMBER}|(l) {LEMMA})',
+    'use': f' {LEMMA}',
+    'drop': f' {LEMMA}',
+    'lemma': '',
+}
 LEMMAS |= dict.fromkeys(('part', 'deny'), f' {NUMBER} {NUMBER} {COLOURS}')
 
 
@@ -178,7 +200,10 @@ def read_line(line, form):
     if form == 'nonolemma 2' and name in ('line', 'use', 'drop'):
         if not 1 <= len(words) <= 1000:
             return None
-        steps = [read_line(f'line {w[:1]} {w[1:]}' if name == 'line' else f'{name} {w}', 'nonolemma 1') for w in words]
+        steps = [
+            read_line(f'line {w[:1]} {w[1:]}' if name == 'line' else f'{name} {w}', 'nonolemma 1')
+            for w in words
+        ]
         return None if None in steps else [step for one in steps for step in one]
     pattern = (TREE if form.startswith('nonocert') else LEMMAS).get(name)
     match = None if pattern is None else re.fullmatch(name + pattern, line)
@@ -235,7 +260,11 @@ class Tree:
                 return 'Place'
             nest = self.nests[-1] + 1
             self.end()
-            branches = [[*facts[:x], 1 << k, *facts[x + 1 :]] for k in range(15, -1, -1) if facts[x] >> k & 1]
+            branches = [
+                [*facts[:x], 1 << k, *facts[x + 1 :]]
+                for k in range(15, -1, -1)
+                if facts[x] >> k & 1
+            ]
             self.places += branches
             self.nests += [nest] * len(branches)
             self.splits, self.depth = self.splits + 1, max(self.depth, nest)
@@ -422,7 +451,11 @@ def lemma_line(rng, state, live):
 def next_line(rng, state, lemmas):
     """A line of one step that is mostly right at the place at hand."""
     puzzle, facts = state.puzzle, state.places[-1]
-    live = {n: sum(facts[x] & mask > 0 for x, mask in lemma) for n, lemma in state.kept.items()} if lemmas else {}
+    live = (
+        {n: sum(facts[x] & mask > 0 for x, mask in lemma) for n, lemma in state.kept.items()}
+        if lemmas
+        else {}
+    )
     if line := end_of_branch(rng, state, live) or (lemmas and lemma_line(rng, state, live)):
         return line
     new = [name for name in puzzle.lines if puzzle.forced(facts, name) != facts]
@@ -452,7 +485,12 @@ def joined(rng, lines):
         name, *words = line.split(' ')
         if name in ('line', 'use', 'drop') and words:
             line = f'{name} {"".join(words)}'
-            if found and found[-1].startswith(name + ' ') and found[-1].count(' ') < longest and rng.random() < 0.8:
+            if (
+                found
+                and found[-1].startswith(name + ' ')
+                and found[-1].count(' ') < longest
+                and rng.random() < 0.8
+            ):
                 line = found.pop() + line[len(name) :]
         found.append(line)
     return found
@@ -468,9 +506,15 @@ def changed(rng, line):
     numbers = list(re.finditer('[0-9]+', line))
     if numbers and rng.random() < 0.8:
         n = rng.choice(numbers)
-        return line[: n.start()] + str(rng.choice([0, 1, 2, 3, 4, 5, int(n[0]) + 1, int(n[0]) - 1])) + line[n.end() :]
+        return (
+            line[: n.start()]
+            + str(rng.choice([0, 1, 2, 3, 4, 5, int(n[0]) + 1, int(n[0]) - 1]))
+            + line[n.end() :]
+        )
     at = rng.randrange(len(line) + 1)
-    return line[:at] + rng.choice([*' rcl.ab01#\r\n', '', line[at:]]) + line[at + rng.randrange(2) :]
+    return (
+        line[:at] + rng.choice([*' rcl.ab01#\r\n', '', line[at:]]) + line[at + rng.randrange(2) :]
+    )
 
 
 def spoilt(rng, lines):
@@ -478,8 +522,26 @@ def spoilt(rng, lines):
     lines = list(lines)
     for _ in range(rng.choice([1, 1, 1, 2, 3])):
         lines = lines or ['']
-        k, j = (rng.randrange(min(len(lines) - 1, rng.random() < 0.97), len(lines)) for _ in range(2))
-        kind = rng.choice(['without', 'twice', 'swapped', 'swapped', 'cut', 'changed', 'changed', 'changed', 'odd', 'odd', 'last', 'given', 'first'])
+        k, j = (
+            rng.randrange(min(len(lines) - 1, rng.random() < 0.97), len(lines)) for _ in range(2)
+        )
+        kind = rng.choice(
+            [
+                'without',
+                'twice',
+                'swapped',
+                'swapped',
+                'cut',
+                'changed',
+                'changed',
+                'changed',
+                'odd',
+                'odd',
+                'last',
+                'given',
+                'first',
+            ]
+        )
         if kind == 'without':
             del lines[k]
         elif kind == 'twice':
@@ -502,7 +564,9 @@ def spoilt(rng, lines):
 
 
 def text_of(rng, lines):
-    return ('\n'.join(lines) + rng.choice(['\n'] * 40 + ['', '', '\n\n', '\r\n', ' '])).encode('latin-1')
+    return ('\n'.join(lines) + rng.choice(['\n'] * 40 + ['', '', '\n\n', '\r\n', ' '])).encode(
+        'latin-1'
+    )
 
 
 def published_text(rng, places, givens):
@@ -527,7 +591,11 @@ def seeded(rng, count):
         puzzle = Puzzle(read_p3(picture))
         places = [(r, c) for r in range(1, rows + 1) for c in range(1, columns + 1)]
         form = rng.choice([*FORMS, *FORMS[2:]])
-        givens = [] if form == FORMS[0] or rng.random() < 0.4 else sorted(rng.sample(places, rng.randint(0, min(len(places), 4))))
+        givens = (
+            []
+            if form == FORMS[0] or rng.random() < 0.4
+            else sorted(rng.sample(places, rng.randint(0, min(len(places), 4))))
+        )
         lines = walk(rng, puzzle, form, givens)
         for k in range(8):
             text = spoilt(rng, lines) if k else lines
@@ -565,18 +633,29 @@ def worked():
             if line and line[0] != '#':
                 asked, told = line.split(' => ')
                 rows, text = asked.split(' ', 1)
-                yield shown(rows), text.encode().decode('unicode_escape').encode('latin-1'), re.sub('^(! )?certificate ', '', told)
+                yield shown(rows), text.encode().decode('unicode_escape').encode('latin-1'), re.sub(
+                    '^(! )?certificate ', '', told
+                )
     grades = (Path(__file__).parents[1] / 'cases/grade.case').read_text()
-    for rows, text, figures in re.findall(r'^([.ab/]+) (?:map \S+ )?cert (.*) => .*(, splits \d+, depth \d+)$', grades, re.M):
-        yield shown(rows), text.encode().decode('unicode_escape').encode('latin-1'), f'accepted{figures}'
+    for rows, text, figures in re.findall(
+        r'^([.ab/]+) (?:map \S+ )?cert (.*) => .*(, splits \d+, depth \d+)$', grades, re.M
+    ):
+        yield shown(rows), text.encode().decode('unicode_escape').encode(
+            'latin-1'
+        ), f'accepted{figures}'
 
 
 def longest():
     """The deepest, longest and fullest texts with their answers, which the plain checker would take long to find."""
+
     def lines(form, *parts):
         return b'\n'.join([form, *(line for part, count in parts for line in part * count)])
 
-    wide, end, dies = b'part 1 1 a', [b'line r 1', b'line c 1', b'line r 2', b'done'], [b'line r 1', b'dead c 2']
+    wide, end, dies = (
+        b'part 1 1 a',
+        [b'line r 1', b'line c 1', b'line r 2', b'done'],
+        [b'line r 1', b'dead c 2'],
+    )
     form, deny, depth, many, cells = b'nonolemma 1', b'deny 1 1 a', 600_000, 700_000, 40 * 40
     full = [b'lemma', *[deny] * 1024, *dies] * 64
     # All branches of the splits but the first end in a row in which a cell has a colour that the row does not have.
@@ -585,17 +664,43 @@ def longest():
     two, blank = shown('a./.b'), shown('/'.join(['.' * 40] * 40))
     return [
         (two, lines(form, ([wide], depth)), f'Ended at line {depth + 2}'),
-        (two, lines(form, ([wide], depth), (dies, 1), ([b'dead c 1'], depth - 1), (end, 1)),
-         f'accepted, splits {depth}, depth {depth}'),
-        (two, lines(form, ([b'part 1 1 .bcdefghijklmno', *end, b'line r 1', b'line c 2'], 1), ([b'lemma', b'dead r 1'], many),
-                    ([b'dead l 1'], 1)), f'accepted, splits {many + 1}, depth 1'),
+        (
+            two,
+            lines(form, ([wide], depth), (dies, 1), ([b'dead c 1'], depth - 1), (end, 1)),
+            f'accepted, splits {depth}, depth {depth}',
+        ),
+        (
+            two,
+            lines(
+                form,
+                ([b'part 1 1 .bcdefghijklmno', *end, b'line r 1', b'line c 2'], 1),
+                ([b'lemma', b'dead r 1'], many),
+                ([b'dead l 1'], 1),
+            ),
+            f'accepted, splits {many + 1}, depth 1',
+        ),
         (two, lines(form, ([b'lemma'], 1), ([deny], 1025)), 'Full at line 1027'),
         (two, lines(form, (full, 1), ([b'lemma', deny], 1)), f'Full at line {64 * 1027 + 3}'),
-        (two, lines(form, (full, 1), ([b'drop 1', b'lemma', deny, *dies, b'use 65', *end], 1)), 'accepted, splits 65, depth 1'),
-        (two, lines(form, (full, 1), ([wide], 1), ([b'use 1'], 10_000), ([b'dead l 1', *end], 1)), 'accepted, splits 65, depth 1'),
-        (two, lines(form, ([b'lemma', deny, *dies], 60_000), ([b'use 60000', *end], 1)), 'accepted, splits 60000, depth 1'),
-        (shown('a./.a'), lines(b'nonocert 2', ([b'given 1 1'], 1), ([b'split 1 1'], 1_000_000), (end, 1)),
-         'accepted, givens 1, splits 1000000, depth 1000000'),
+        (
+            two,
+            lines(form, (full, 1), ([b'drop 1', b'lemma', deny, *dies, b'use 65', *end], 1)),
+            'accepted, splits 65, depth 1',
+        ),
+        (
+            two,
+            lines(form, (full, 1), ([wide], 1), ([b'use 1'], 10_000), ([b'dead l 1', *end], 1)),
+            'accepted, splits 65, depth 1',
+        ),
+        (
+            two,
+            lines(form, ([b'lemma', deny, *dies], 60_000), ([b'use 60000', *end], 1)),
+            'accepted, splits 60000, depth 1',
+        ),
+        (
+            shown('a./.a'),
+            lines(b'nonocert 2', ([b'given 1 1'], 1), ([b'split 1 1'], 1_000_000), (end, 1)),
+            'accepted, givens 1, splits 1000000, depth 1000000',
+        ),
         (blank, lines(b'nonocert 1', splits), 'Ended at line 100002'),
         (blank, lines(b'nonocert 1', splits, (ends[:-1], 1)), 'Ended at line 124002'),
         (blank, lines(b'nonocert 1', splits, (ends, 1)), 'accepted, splits 100000, depth 100000'),
@@ -617,12 +722,23 @@ def main(program, seed='1', count='4000'):
     with tempfile.TemporaryDirectory() as folder:
         named = []
         for k, case in enumerate(cases):
-            files = {f'{k}.{end}': data for end, data in zip(('ppm', 'cert', 'givens'), case) if data is not None}
+            files = {
+                f'{k}.{end}': data
+                for end, data in zip(('ppm', 'cert', 'givens'), case)
+                if data is not None
+            }
             for name, data in files.items():
                 (Path(folder) / name).write_bytes(data)
             named.append(' '.join(files) + '\n')
-        ran = subprocess.run([Path(program).resolve()], cwd=folder, input=''.join(named), capture_output=True, text=True, check=True,
-                             preexec_fn=lambda: resource.setrlimit(resource.RLIMIT_AS, (MOST_MEMORY, MOST_MEMORY)))
+        ran = subprocess.run(
+            [Path(program).resolve()],
+            cwd=folder,
+            input=''.join(named),
+            capture_output=True,
+            text=True,
+            check=True,
+            preexec_fn=lambda: resource.setrlimit(resource.RLIMIT_AS, (MOST_MEMORY, MOST_MEMORY)),
+        )
     for case, one, found in itertools.zip_longest(cases, wanted, ran.stdout.splitlines()):
         if found != one:
             sys.exit(f'{str(case)[:2000]}\nthe program: {found}\nwanted: {one}')

@@ -22,14 +22,24 @@ from reference.faults import Fault  # noqa: E402
 from reference.sessions import Disagreement, agree  # noqa: E402
 from small_pictures import PATIENCE, Listing  # noqa: E402
 
-SAMPLES = ((3, 3, 2, 1), (2, 4, 2, 1), (3, 3, 3, 41))  # height, width, colours, and each so manieth picture is tried
+SAMPLES = (
+    (3, 3, 2, 1),
+    (2, 4, 2, 1),
+    (3, 3, 3, 41),
+)  # height, width, colours, and each so manieth picture is tried
 # Splits of the fixed order, and when it is begun anew, splits in a window, conflicts of a search with lemmas, evaluations of a tree at
 # first. Those of the program; windows first; lemmas first; trees alone, with a bound that each keeps; one that grows; one that cannot
 # grow, so that the last tree is written without a bound.
-PROGRAMS, WINDOWS, LEMMAS = (100, 500, 64, 100000, 10000), (0, 0, 64, 0, 10000), (0, 0, 0, 1000, 10000)
+PROGRAMS, WINDOWS, LEMMAS = (
+    (100, 500, 64, 100000, 10000),
+    (0, 0, 64, 0, 10000),
+    (0, 0, 0, 1000, 10000),
+)
 TREES, GROWING, LAST = (0, 0, 0, 0, 10000), (0, 0, 0, 0, 1), (0, 0, 0, 0, 0)
 BOUNDS = (PROGRAMS, WINDOWS, LEMMAS, TREES, GROWING, LAST, (1, 5, 1, 1, 7))
-TOLD = re.compile(r'(unique|ambiguous), (\d+) searched, (\d+) splits, (\d+) evaluations(?:: (\S+))?')
+TOLD = re.compile(
+    r'(unique|ambiguous), (\d+) searched, (\d+) splits, (\d+) evaluations(?:: (\S+))?'
+)
 
 
 def frozen(rows):
@@ -39,8 +49,10 @@ def frozen(rows):
 
 def text_of(rows, givens):
     """A picture in the words of a table."""
-    return '/'.join(''.join((',AB' if (r, c) in givens else '.ab')[colour] for c, colour in enumerate(row))
-                    for r, row in enumerate(rows))
+    return '/'.join(
+        ''.join((',AB' if (r, c) in givens else '.ab')[colour] for c, colour in enumerate(row))
+        for r, row in enumerate(rows)
+    )
 
 
 def rows_of(text):
@@ -56,7 +68,9 @@ def cases():
         cells = list(itertools.product(range(height), range(width)))
         for rows in listing.pictures[::step]:
             for givens in ([], [cell for cell in cells if chance.random() < 0.2]):
-                yield frozen(rows), givens, [frozen(other) for other in listing.others(rows, givens)]
+                yield frozen(rows), givens, [
+                    frozen(other) for other in listing.others(rows, givens)
+                ]
 
 
 @functools.lru_cache(maxsize=None)
@@ -77,7 +91,10 @@ def compare(bounds, case, told, cert):
     found = TOLD.fullmatch(told)
     agree(found is not None, f'{told} was answered')
     word, searched, splits, evaluations, other = found.groups()
-    agree((word == 'ambiguous') == bool(others), f'{word} was answered, and there are {len(others)} others')
+    agree(
+        (word == 'ambiguous') == bool(others),
+        f'{word} was answered, and there are {len(others)} others',
+    )
     agree(other is None or rows_of(other) in others, f'{other} was shown')
     agree(int(splits) <= bounds[0] * int(searched), f'{splits} splits')
     agree((cert == 'none') == bool(others), f'{cert} was answered as the certificate')
@@ -102,7 +119,10 @@ class Work:
         for is_unique in (False, True):
             done = {bounds: self.by_kind[bounds, is_unique] for bounds in BOUNDS}
             agree(done[PROGRAMS][1] > 0, 'the fixed order split nothing')
-            agree(all(done[bounds][1] == 0 for bounds in BOUNDS[1:6]), 'the fixed order was gone on with')
+            agree(
+                all(done[bounds][1] == 0 for bounds in BOUNDS[1:6]),
+                'the fixed order was gone on with',
+            )
             agree(done[LEMMAS][2] != done[TREES][2], 'lemmas answered nothing')
             spent = [done[bounds][2] for bounds in (PROGRAMS, WINDOWS, TREES, GROWING, LAST)]
             # A tree that is broken off stops at its bound, so those before the last one may cost less than one that suffices.
@@ -112,9 +132,16 @@ class Work:
 def compare_all(program):
     """Asks a program; how many answers."""
     asked = [(bounds, case) for case in cases() for bounds in BOUNDS]
-    lines = ''.join('within %d %d %d %d %d %s\n' % (*bounds, text_of(*case[:2])) for bounds, case in asked)
-    run = subprocess.run([program], input=lines.encode(), capture_output=True, timeout=PATIENCE, check=False)
-    agree((run.returncode, run.stderr) == (0, b''), f'the program ends with {run.returncode} and says {run.stderr}')
+    lines = ''.join(
+        'within %d %d %d %d %d %s\n' % (*bounds, text_of(*case[:2])) for bounds, case in asked
+    )
+    run = subprocess.run(
+        [program], input=lines.encode(), capture_output=True, timeout=PATIENCE, check=False
+    )
+    agree(
+        (run.returncode, run.stderr) == (0, b''),
+        f'the program ends with {run.returncode} and says {run.stderr}',
+    )
     answers = run.stdout.decode().splitlines()
     agree(len(answers) == 2 * len(asked), f'{len(answers)} lines answer {len(asked)} calls')
     work = Work()

@@ -23,9 +23,24 @@ from reference.runs import Run, work_run  # noqa: E402
 from reference.sessions import Disagreement, Output, agree, clue_lines, picture_rows  # noqa: E402
 
 PATIENCE = 1800  # seconds after which a run counts as one that does not end
-STROKES = ((1, 1, 2), (1, 4, 2), (4, 1, 2), (2, 2, 3), (2, 3, 2), (3, 2, 2), (3, 3, 2))  # height, width, colours
+STROKES = (
+    (1, 1, 2),
+    (1, 4, 2),
+    (4, 1, 2),
+    (2, 2, 3),
+    (2, 3, 2),
+    (3, 2, 2),
+    (3, 3, 2),
+)  # height, width, colours
 GIVENS = ((1, 3, 2), (2, 2, 2), (2, 3, 2), (2, 2, 3))
-PUZZLES = ((1, 1, 1), (1, 3, 1), (3, 1, 1), (2, 2, 1), (2, 3, 7), (3, 3, 211))  # height, width, and each so manieth is tried
+PUZZLES = (
+    (1, 1, 1),
+    (1, 3, 1),
+    (3, 1, 1),
+    (2, 2, 1),
+    (2, 3, 7),
+    (3, 3, 211),
+)  # height, width, and each so manieth is tried
 TRIPLES = ('255 255 255', '0 0 0', '255 0 0')
 
 
@@ -33,16 +48,21 @@ class Listing:
     """All pictures of a size, by their clues."""
 
     def __init__(self, height, width, colours):
-        self.pictures = [[list(cells[row * width:(row + 1) * width]) for row in range(height)]
-                         for cells in itertools.product(range(colours), repeat=height * width)]
+        self.pictures = [
+            [list(cells[row * width : (row + 1) * width]) for row in range(height)]
+            for cells in itertools.product(range(colours), repeat=height * width)
+        ]
         self.by_clues = {}
         for rows in self.pictures:
             self.by_clues.setdefault(key_of(clues_of(rows)), []).append(rows)
 
     def others(self, rows, givens):
         """The other pictures with the clues, and with the colours in the givens."""
-        return [other for other in self.by_clues[key_of(clues_of(rows))]
-                if other != rows and all(other[row][col] == rows[row][col] for row, col in givens)]
+        return [
+            other
+            for other in self.by_clues[key_of(clues_of(rows))]
+            if other != rows and all(other[row][col] == rows[row][col] for row, col in givens)
+        ]
 
 
 def key_of(clues):
@@ -87,15 +107,24 @@ class Talk:
 
         def judge(output):
             said = output.line()
-            agree(said == (b'ambiguous' if others else b'unique'), f'{said!r} of {rows}, and the others are {others}')
+            agree(
+                said == (b'ambiguous' if others else b'unique'),
+                f'{said!r} of {rows}, and the others are {others}',
+            )
             if others:
                 shown = [output.line().decode() for _ in rows]
-                agree(shown in [picture_rows(other) for other in others], f'the other picture of {rows} is {shown}')
+                agree(
+                    shown in [picture_rows(other) for other in others],
+                    f'the other picture of {rows} is {shown}',
+                )
+
         self.ask('verdict', judge)
 
     def show(self):
         """Clues and map of what is now the picture."""
-        clues, shown = clue_lines(clues_of(self.rows)), map_rows(settled(self.rows, sorted(self.givens)))
+        clues, shown = clue_lines(clues_of(self.rows)), map_rows(
+            settled(self.rows, sorted(self.givens))
+        )
         self.ask('clues', lambda output: output.must_lines(*clues))
         self.ask('map', lambda output: output.must_lines(*shown))
 
@@ -111,15 +140,22 @@ class Talk:
                 return
             cert = certificate_of(output)
             _, named, _ = read_cert(cert)
-            agree(named == [(row + 1, col + 1) for row, col in givens], f'the givens of {rows} with {givens} are {named}')
+            agree(
+                named == [(row + 1, col + 1) for row, col in givens],
+                f'the givens of {rows} with {givens} are {named}',
+            )
             check_cert(ordered(rows), read_cert(cert))
+
         self.ask('certify', judge)
 
     def run(self, programs, folder):
         """Runs it and judges each answer, by the listing and by the reference."""
         lines = ''.join(line + '\n' for line, _ in self.asked).encode()
         for run in runs_of(programs, folder, self.text, lines, []):
-            agree((run.status, run.said) == (0, b''), f'a session ends with {run.status} and says {run.said}')
+            agree(
+                (run.status, run.said) == (0, b''),
+                f'a session ends with {run.status} and says {run.said}',
+            )
             output = Output(run.wrote)
             for _, judge in self.asked:
                 judge(output)
@@ -132,7 +168,7 @@ def certificate_of(output):
     lines = [output.line()]
     while output.at < len(output.text):
         end = output.text.find(b'\n', output.at)
-        line = output.text[output.at:end]
+        line = output.text[output.at : end]
         if line.split(b' ')[0] not in (b'given', b'line', b'split', b'dead', b'done'):
             break
         lines.append(output.line())
@@ -152,9 +188,17 @@ def runs_of(programs, folder, text, lines, words):
     (Path(folder) / 'picture').write_bytes(text)
     runs = {}
     for program in programs:
-        ended = subprocess.run([program, 'work', 'picture', *words], cwd=folder, input=lines, capture_output=True,
-                               timeout=PATIENCE, check=False)
-        runs[ended.returncode, ended.stdout, ended.stderr] = Run(ended.returncode, ended.stdout, ended.stderr)
+        ended = subprocess.run(
+            [program, 'work', 'picture', *words],
+            cwd=folder,
+            input=lines,
+            capture_output=True,
+            timeout=PATIENCE,
+            check=False,
+        )
+        runs[ended.returncode, ended.stdout, ended.stderr] = Run(
+            ended.returncode, ended.stdout, ended.stderr
+        )
     return runs.values()
 
 
@@ -207,7 +251,9 @@ def all_givens(programs, folder, height, width, colours):
         for change in [None, *steps_through(2, height * width)]:
             if change is not None:
                 cell = change[0] // width, change[0] % width
-                talk.edit(f'{"unpin" if cell in talk.givens else "pin"} {cell[0] + 1} {cell[1] + 1}')
+                talk.edit(
+                    f'{"unpin" if cell in talk.givens else "pin"} {cell[0] + 1} {cell[1] + 1}'
+                )
                 talk.givens ^= {cell}
             talk.verdict()
             talk.certify()
@@ -218,14 +264,19 @@ def all_givens(programs, folder, height, width, colours):
 
 def line_clues(length):
     """All clues in black of a line."""
-    return sorted({clue for rows in Listing(1, length, 2).pictures for clue in [clues_of(rows)['r', 0]]})
+    return sorted(
+        {clue for rows in Listing(1, length, 2).pictures for clue in [clues_of(rows)['r', 0]]}
+    )
 
 
 def judge_puzzle(run, text, pictures, goal_line):
     """A puzzle is opened exactly where it has a picture, as one of its pictures, and unique where it has one alone."""
-    agree((run.status == 0) == bool(pictures), f'{text!r} ends with {run.status}, and the pictures are {pictures}')
+    agree(
+        (run.status == 0) == bool(pictures),
+        f'{text!r} ends with {run.status}, and the pictures are {pictures}',
+    )
     if pictures:
-        goal, word = run.wrote.decode().splitlines()[goal_line:goal_line + 2]
+        goal, word = run.wrote.decode().splitlines()[goal_line : goal_line + 2]
         flat = [f'goal "{"".join(str(cell) for row in one for cell in row)}"' for one in pictures]
         agree(goal in flat, f'{text!r} is opened as {goal}')
         agree(word == ('unique' if len(pictures) == 1 else 'ambiguous'), f'{text!r} is {word}')
@@ -236,10 +287,24 @@ def all_puzzles(programs, folder, height, width, each):
     listing = Listing(height, width, 2)
     rows, columns = line_clues(width), line_clues(height)
     count = opened = 0
-    for clues in itertools.islice(itertools.product(*[rows] * height, *[columns] * width), 0, None, each):
-        named = dict(zip([('r', i) for i in range(height)] + [('c', i) for i in range(width)], clues))
+    for clues in itertools.islice(
+        itertools.product(*[rows] * height, *[columns] * width), 0, None, each
+    ):
+        named = dict(
+            zip([('r', i) for i in range(height)] + [('c', i) for i in range(width)], clues)
+        )
         texts = [','.join(str(length) for length, _ in clue) or '0' for clue in clues]
-        text = '\n'.join([f'width {width}', f'height {height}', 'rows', *texts[:height], 'columns', *texts[height:], ''])
+        text = '\n'.join(
+            [
+                f'width {width}',
+                f'height {height}',
+                'rows',
+                *texts[:height],
+                'columns',
+                *texts[height:],
+                '',
+            ]
+        )
         lines = b'write non\nverdict\n'
         pictures = listing.by_clues.get(key_of(named), [])
         opened += bool(pictures)
@@ -262,7 +327,9 @@ def main(programs):
         except (Disagreement, Fault, subprocess.TimeoutExpired) as wrong:
             print(wrong, file=sys.stderr)
             return 1
-    print(f'{strokes} strokes, {givens} sets of givens and {puzzles} puzzles without a goal as a listing says')
+    print(
+        f'{strokes} strokes, {givens} sets of givens and {puzzles} puzzles without a goal as a listing says'
+    )
     return 0
 
 

@@ -16,17 +16,25 @@ def compares(script, *words, **more):
 
 def test_small_pictures(kept):
     """One listing serves all programs."""
-    compares('small_pictures.py', *[kept.program(f'nonobench{kind}') for kind in BUILT if not (kind and kept.released)])
+    compares(
+        'small_pictures.py',
+        *[kept.program(f'nonobench{kind}') for kind in BUILT if not (kind and kept.released)],
+    )
 
 
 @pytest.mark.toolchain
 def test_small_bounds(kept):
-    compares('small_bounds.py', *[needs_file(kept.program(f'search_tables{kind}'), 'rt ci') for kind in BUILT])
+    compares(
+        'small_bounds.py',
+        *[needs_file(kept.program(f'search_tables{kind}'), 'rt ci') for kind in BUILT],
+    )
 
 
 @pytest.mark.toolchain
 @pytest.mark.parametrize('kind', BUILT)
-@pytest.mark.parametrize(('script', 'tables'), [('lemma_pictures.py', 'lemma_tables'), ('plain_forms.py', 'cert_tables')])
+@pytest.mark.parametrize(
+    ('script', 'tables'), [('lemma_pictures.py', 'lemma_tables'), ('plain_forms.py', 'cert_tables')]
+)
 def test_certificates(kept, script, tables, kind):
     """With lemmas; and of all forms, with and without published givens, against a checker that was written from the documents alone."""
     compares(script, needs_file(kept.program(f'{tables}{kind}'), 'rt ci'))
@@ -40,4 +48,9 @@ def test_assessments(library, part):
 
 def test_cases_made_by_chance(kept, tmp_path):
     """Some seeded cases of the fuzzer, the same each time."""
-    compares('fuzz.py', '1000', '1', env={'PROGRAM': str(kept.program('nonobench')), 'FUZZ_FOLDER': str(tmp_path)})
+    compares(
+        'fuzz.py',
+        '1000',
+        '1',
+        env={'PROGRAM': str(kept.program('nonobench')), 'FUZZ_FOLDER': str(tmp_path)},
+    )

@@ -20,10 +20,37 @@ child must not call the library; use `Worker` there, which starts a new program.
 
 from . import _loading  # before all else
 from ._answers import (
-    Assessment, Audit, Block, CertificateFault, Clues, Fault, Flaw, Given, GivensFault, Grade, ImageFault, LengthFault, PictureFault,
-    Proved, Result, Ruling, UnpublishedGiven, Verdict,
+    Assessment,
+    Audit,
+    Block,
+    CertificateFault,
+    Clues,
+    Fault,
+    Flaw,
+    Given,
+    GivensFault,
+    Grade,
+    ImageFault,
+    LengthFault,
+    PictureFault,
+    Proved,
+    Result,
+    Ruling,
+    UnpublishedGiven,
+    Verdict,
 )
-from ._calls import ANY_GIVEN, assess, audit, certify, check, clues, picture_of, prove, verdict, verify
+from ._calls import (
+    ANY_GIVEN,
+    assess,
+    audit,
+    certify,
+    check,
+    clues,
+    picture_of,
+    prove,
+    verdict,
+    verify,
+)
 from ._hints import hint_of
 from ._images import colour_shown, picture_of_image
 from ._library import version

@@ -32,7 +32,9 @@ def main() -> None:
         print(f"  recipes: {recipes}\n")
     for name, module, use in LIBRARIES:
         is_there = importlib.util.find_spec(module) is not None
-        print(f"  {name:12} {use:28} {_version(name) if is_there else f'not installed (pip install {name})'}")
+        print(
+            f"  {name:12} {use:28} {_version(name) if is_there else f'not installed (pip install {name})'}"
+        )
 
 
 def _version(name: str) -> str:

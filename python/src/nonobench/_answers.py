@@ -80,7 +80,9 @@ def fault_of(text: str, certificate: bytes = b"") -> Fault:
     found = re.fullmatch(r"(ppm|givens|certificate) (\w+) at (?:byte|line) (\d+)", text)
     if found and found[2] == "UnpublishedGiven":
         return UnpublishedGiven(int(found[3]), givens_of(certificate))
-    return Fault(text, 0, text) if found is None else _KINDS[found[1]](found[2], int(found[3]), text)
+    return (
+        Fault(text, 0, text) if found is None else _KINDS[found[1]](found[2], int(found[3]), text)
+    )
 
 
 class Given(NamedTuple):
@@ -97,13 +99,19 @@ class Result:
     givens: tuple[Given, ...]
 
     def __str__(self) -> str:
-        return f"certificate accepted, givens {len(self.givens)}\n" if self.givens else "certificate accepted\n"
+        return (
+            f"certificate accepted, givens {len(self.givens)}\n"
+            if self.givens
+            else "certificate accepted\n"
+        )
 
 
 def givens_of(certificate: bytes) -> tuple[Given, ...]:
     """The givens that a right certificate names: they stand directly below its first line. No right one has more or longer numbers."""
     lines = itertools.islice(io.BytesIO(certificate), 1, 1 + MOST_GIVENS)
-    found = itertools.takewhile(bool, map(re.compile(rb"given (\d{1,3}) (\d{1,3})\n?").fullmatch, lines))
+    found = itertools.takewhile(
+        bool, map(re.compile(rb"given (\d{1,3}) (\d{1,3})\n?").fullmatch, lines)
+    )
     return tuple(Given(int(match[1]), int(match[2])) for match in found if match)
 
 
@@ -143,7 +151,11 @@ def clues_of(text: str) -> Clues:
     axes: dict[str, list[tuple[Block, ...]]] = {"r": [], "c": []}
     for line in text.splitlines():
         place, words = line.split(": ")
-        blocks = () if words == "0" else tuple(Block(int(word[:-1]), word[-1]) for word in words.split(" "))
+        blocks = (
+            ()
+            if words == "0"
+            else tuple(Block(int(word[:-1]), word[-1]) for word in words.split(" "))
+        )
         axes[place[0]].append(blocks)
     return Clues(tuple(axes["r"]), tuple(axes["c"]))
 
@@ -199,7 +211,9 @@ class Assessment:
     open: int
     grade: Optional[Grade]
     flaws: tuple[Flaw, ...]
-    unknown: Optional[Given]  # a given of which the allowance leaves open whether the puzzle needs it
+    unknown: Optional[
+        Given
+    ]  # a given of which the allowance leaves open whether the puzzle needs it
     is_fit: bool
     text: str
     named: tuple[Given, ...] = ()  # the givens that the certificate names, where one is passed
@@ -256,9 +270,18 @@ def assessment_of(text: str, named: tuple[Given, ...] = ()) -> Assessment:
     told = {words[0]: words[1:] for words in lines if words[0] != "flaw"}
     grade = told.get("grade")
     return Assessment(
-        verdict_of(front.encode("ascii")), int(size[0]), int(size[1]), int(told["colours"][0]), int(told["givens"][0]), int(told["open"][0]),
-        None if grade is None else Grade(grade[0], *map(int, grade[1:])), tuple(_flaw(words[1:]) for words in lines if words[0] == "flaw"),
-        Given(*map(int, told["unknown"][1:])) if "unknown" in told else None, lines[-1] == ["fit"], text, named,
+        verdict_of(front.encode("ascii")),
+        int(size[0]),
+        int(size[1]),
+        int(told["colours"][0]),
+        int(told["givens"][0]),
+        int(told["open"][0]),
+        None if grade is None else Grade(grade[0], *map(int, grade[1:])),
+        tuple(_flaw(words[1:]) for words in lines if words[0] == "flaw"),
+        Given(*map(int, told["unknown"][1:])) if "unknown" in told else None,
+        lines[-1] == ["fit"],
+        text,
+        named,
     )
 
 

@@ -38,7 +38,9 @@ class Row(NamedTuple):
         """The row as it is printed: in one line, and in signs that the output has."""
         words = printable(f"{name}{'' if not self.notes else ': ' + ', '.join(self.notes)}")
         coding = sys.stdout.encoding or "utf-8"
-        return f"{self.verdict:9}  {self.grade:9}  {words}".encode(coding, "namereplace").decode(coding)
+        return f"{self.verdict:9}  {self.grade:9}  {words}".encode(coding, "namereplace").decode(
+            coding
+        )
 
 
 def row_of(status: int, text: str, said: str) -> Row:
@@ -47,7 +49,11 @@ def row_of(status: int, text: str, said: str) -> Row:
     if first.startswith("refused ") and status in (UNFIT, UNREAD):
         return Row("error", notes=(first,), status=status)
     if first not in VERDICTS or lines[-1:] != [LAST.get(status)]:
-        return Row("error", notes=(said.strip() or f"the program ended with status {status}",), status=UNREAD)
+        return Row(
+            "error",
+            notes=(said.strip() or f"the program ended with status {status}",),
+            status=UNREAD,
+        )
     grades = [line.split(" ")[1].replace("-", " ") for line in lines if line.startswith("grade ")]
     flaws = [line[5:] for line in lines if line.startswith("flaw ")]
     return Row(first, "".join(grades), tuple(flaws), status)
@@ -77,8 +83,14 @@ def beside(path: str, ground: Optional[str]) -> list[str]:
             raise ValueError(f"its background: more than {MOST_BYTES} bytes")
         ground = held.strip().decode("ascii", "replace")
     certificate = next(filter(None, (lying(path, ending) for ending in ENDINGS)), None)
-    named = {"--givens": lying(path, "givens"), "--background": None if ground == "white" else ground, "--certificate": certificate}
-    return [word for option, value in named.items() if value is not None for word in (option, value)]
+    named = {
+        "--givens": lying(path, "givens"),
+        "--background": None if ground == "white" else ground,
+        "--certificate": certificate,
+    }
+    return [
+        word for option, value in named.items() if value is not None for word in (option, value)
+    ]
 
 
 def assess(path: str, words: list[str], ground: Optional[str], seconds: float) -> Row:
@@ -86,20 +98,34 @@ def assess(path: str, words: list[str], ground: Optional[str], seconds: float) -
     command = [PROGRAM, "assess", "--format", FORMATS[os.path.splitext(path)[1].lower()], *words]
     try:
         command += [*beside(path, ground), os.path.abspath(path)]
-        run = subprocess.run(command, stdin=subprocess.DEVNULL, stdout=subprocess.PIPE, stderr=subprocess.PIPE, timeout=seconds)
+        run = subprocess.run(
+            command,
+            stdin=subprocess.DEVNULL,
+            stdout=subprocess.PIPE,
+            stderr=subprocess.PIPE,
+            timeout=seconds,
+        )
     except subprocess.TimeoutExpired:
         return Row("undecided", notes=(f"no answer within {seconds:g} seconds",))
     except (OSError, ValueError) as error:
         return Row("error", notes=(str(error),), status=UNREAD)
-    return row_of(run.returncode, run.stdout.decode("ascii", "replace"), run.stderr.decode("utf-8", "replace"))
+    return row_of(
+        run.returncode, run.stdout.decode("ascii", "replace"), run.stderr.decode("utf-8", "replace")
+    )
 
 
 def puzzles(paths: list[str], unread: Callable[[OSError], None]) -> Iterator[str]:
     """The puzzles that paths name, those of folders by name. A folder that cannot be searched is told."""
     for path in paths:
         if os.path.isdir(path):
-            found = [os.path.join(place, name) for place, _, names in os.walk(path, onerror=unread) for name in names]
-            yield from sorted(name for name in found if os.path.splitext(name)[1].lower() in FORMATS)
+            found = [
+                os.path.join(place, name)
+                for place, _, names in os.walk(path, onerror=unread)
+                for name in names
+            ]
+            yield from sorted(
+                name for name in found if os.path.splitext(name)[1].lower() in FORMATS
+            )
         else:
             yield path
 
@@ -115,12 +141,26 @@ def main(words: Optional[list[str]] = None) -> int:
 
 
 def _asked(words: Optional[list[str]]) -> argparse.Namespace:
-    parser = argparse.ArgumentParser("nonobench-audit", description="On Windows: a line for each puzzle, with verdict, grade and flaws.")
-    parser.add_argument("paths", metavar="PATH", nargs="+", help="a picture (.ppm), a puzzle (.non), or a folder of them")
-    parser.add_argument("--seconds", metavar="S", type=float, default=10.0, help="for each puzzle (10)")
-    parser.add_argument("--background", metavar="R,G,B", help="the background of the pictures, in place of white")
+    parser = argparse.ArgumentParser(
+        "nonobench-audit",
+        description="On Windows: a line for each puzzle, with verdict, grade and flaws.",
+    )
+    parser.add_argument(
+        "paths",
+        metavar="PATH",
+        nargs="+",
+        help="a picture (.ppm), a puzzle (.non), or a folder of them",
+    )
+    parser.add_argument(
+        "--seconds", metavar="S", type=float, default=10.0, help="for each puzzle (10)"
+    )
+    parser.add_argument(
+        "--background", metavar="R,G,B", help="the background of the pictures, in place of white"
+    )
     parser.add_argument("--allow", metavar="N", help="bounds the splits of a search")
-    parser.add_argument("--jobs", metavar="N", type=int, default=os.cpu_count() or 1, help="programs at a time")
+    parser.add_argument(
+        "--jobs", metavar="N", type=int, default=os.cpu_count() or 1, help="programs at a time"
+    )
     asked = parser.parse_args(words)
     for path in asked.paths:
         if not os.path.isdir(path) and os.path.splitext(path)[1].lower() not in FORMATS:
@@ -135,7 +175,9 @@ def _run(asked: argparse.Namespace) -> int:
     unread: list[OSError] = []
 
     def judge(path: str) -> Row:
-        return assess(path, allow, asked.background if path.lower().endswith(".ppm") else None, asked.seconds)
+        return assess(
+            path, allow, asked.background if path.lower().endswith(".ppm") else None, asked.seconds
+        )
 
     status, names = FIT, list(puzzles(asked.paths, unread.append))
     with ThreadPoolExecutor(asked.jobs) as pool:
@@ -143,7 +185,9 @@ def _run(asked: argparse.Namespace) -> int:
             print(row.line(name), flush=True)
             status = max(status, row.status)
     for error in unread:
-        print(f"nonobench-audit: {printable(str(error.filename))}: {error.strerror}", file=sys.stderr)
+        print(
+            f"nonobench-audit: {printable(str(error.filename))}: {error.strerror}", file=sys.stderr
+        )
     if not names:
         print("nonobench-audit: there are no puzzles", file=sys.stderr)
     return status if names and not unread else UNREAD

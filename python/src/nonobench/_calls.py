@@ -7,8 +7,22 @@ import operator
 from typing import Iterable, Optional, SupportsIndex, Union
 
 from ._answers import (
-    Assessment, Audit, Clues, Fault, GivensFault, LengthFault, Proved, Result, Verdict, assessment_of, clues_of, fault_of, givens_of,
-    proved_of, result_of, verdict_of,
+    Assessment,
+    Audit,
+    Clues,
+    Fault,
+    GivensFault,
+    LengthFault,
+    Proved,
+    Result,
+    Verdict,
+    assessment_of,
+    clues_of,
+    fault_of,
+    givens_of,
+    proved_of,
+    result_of,
+    verdict_of,
 )
 from ._library import DONE, MEMORY
 from ._serve import ASSESS, CHECK, PROVE, PUBLISHED, SESSION, answer
@@ -41,7 +55,13 @@ class Questions:
     and ValueError for a background that is not a triple of numbers from 0 to 65,535. Without one the background is white.
     """
 
-    def check(self, picture: Bytes, certificate: Bytes, background: Optional[Colour] = None, published: Published = ()) -> Result:
+    def check(
+        self,
+        picture: Bytes,
+        certificate: Bytes,
+        background: Optional[Colour] = None,
+        published: Published = (),
+    ) -> Result:
         """Checks a certificate of a picture, a P3 text, in any of its forms. Raises CertificateFault if it is not accepted.
 
         A puzzle has one solution with the givens that its certificate names, and these may be all cells. So a certificate is
@@ -51,7 +71,9 @@ class Questions:
         occurs twice raises GivensFault. `published=ANY_GIVEN` accepts all givens, for a site that then publishes exactly these.
         """
         picture, certificate, givens = bytes_of(picture), bytes_of(certificate), _file_of(published)
-        (text,) = self._ask(CHECK if givens is None else PUBLISHED, picture, background, certificate, givens or b"")
+        (text,) = self._ask(
+            CHECK if givens is None else PUBLISHED, picture, background, certificate, givens or b""
+        )
         return result_of(text.decode("ascii"), certificate)
 
     verify = check  # its old name, for one release
@@ -65,8 +87,13 @@ class Questions:
         return proved_of(self._ask(PROVE, bytes_of(picture), background, b"")[0])
 
     def assess(
-        self, puzzle: Bytes, certificate: Optional[Bytes] = None, background: Optional[Colour] = None, published: Published = (),
-        allowance: Optional[int] = None, non: bool = False,
+        self,
+        puzzle: Bytes,
+        certificate: Optional[Bytes] = None,
+        background: Optional[Colour] = None,
+        published: Published = (),
+        allowance: Optional[int] = None,
+        non: bool = False,
     ) -> Assessment:
         """Whether a puzzle is fit to be published: its verdict, its grade and its flaws. It is a P3 text, or (`non`) a .non text.
 
@@ -86,7 +113,9 @@ class Questions:
             (text,) = self._ask(ASSESS, puzzle, background, rest, givens or b"")
         except GivensFault:
             if held is not None and isinstance(published, AnyGiven) and not non:
-                self.check(puzzle, held, background, ANY_GIVEN)  # which says what is wrong with the certificate that names them
+                self.check(
+                    puzzle, held, background, ANY_GIVEN
+                )  # which says what is wrong with the certificate that names them
             raise
         return assessment_of(text.decode("ascii"), givens_of(held or b""))
 
@@ -94,7 +123,9 @@ class Questions:
         """The clues of a picture."""
         return clues_of(self._say(picture, background, b"clues\n")[-1].decode("ascii"))
 
-    def verdict(self, picture: Bytes, allowance: Optional[int] = None, background: Optional[Colour] = None) -> Verdict:
+    def verdict(
+        self, picture: Bytes, allowance: Optional[int] = None, background: Optional[Colour] = None
+    ) -> Verdict:
         """Whether another picture has the clues of this one.
 
         The allowance, 0 to 99,999, is how many splits the search of a part may make. Without one the search has no bound, and may
@@ -107,7 +138,9 @@ class Questions:
         text = self._say(picture, background, b"certify\n")[-1]
         return None if text == b"ambiguous\n" else text
 
-    def audit(self, picture: Bytes, allowance: Optional[int] = None, background: Optional[Colour] = None) -> Audit:
+    def audit(
+        self, picture: Bytes, allowance: Optional[int] = None, background: Optional[Colour] = None
+    ) -> Audit:
         """Verdict and certificate of a picture that is opened once. There is a certificate if the ruling is UNIQUE.
 
         The allowance bounds the verdict, as in `verdict`; making the certificate has no bound.
@@ -130,14 +163,23 @@ class Questions:
             raise Fault(last[9:-1], 0, last[:-1])
         return texts
 
-    def _ask(self, kind: int, picture: bytes, background: Optional[Colour], rest: bytes, givens: bytes = b"") -> list[bytes]:
+    def _ask(
+        self,
+        kind: int,
+        picture: bytes,
+        background: Optional[Colour],
+        rest: bytes,
+        givens: bytes = b"",
+    ) -> list[bytes]:
         """The texts of an answer. Raises what its status tells."""
         ground = b"" if background is None else b"%d,%d,%d" % triple_of(background)
         status, texts = self._answer(kind, picture, ground, rest, givens)
         if status == MEMORY:
             raise MemoryError("nonobench: memory")
         if status != DONE:
-            raise fault_of(texts[-1].decode("ascii"), rest.partition(b"\n")[2] if kind == ASSESS else rest)
+            raise fault_of(
+                texts[-1].decode("ascii"), rest.partition(b"\n")[2] if kind == ASSESS else rest
+            )
         return texts
 
     def _answer(self, kind: int, *files: bytes) -> tuple[int, list[bytes]]:
@@ -146,19 +188,44 @@ class Questions:
 
 
 _here = Questions()
-assess, check, clues, verdict, certify, audit = _here.assess, _here.check, _here.clues, _here.verdict, _here.certify, _here.audit
+assess, check, clues, verdict, certify, audit = (
+    _here.assess,
+    _here.check,
+    _here.clues,
+    _here.verdict,
+    _here.certify,
+    _here.audit,
+)
 verify, prove = _here.verify, _here.prove
 
 
 def picture_of(columns: int, rows: int, triples: Iterable[Colour], maxval: int = 255) -> bytes:
     """A P3 text of cells by rows, each a red, a green and a blue from 0 to maxval. ValueError names what the reader would refuse."""
     cells = [(*map(operator.index, cell),) for cell in triples]
-    for name, value, most in (("columns", columns, MOST_CELLS), ("rows", rows, MOST_CELLS), ("maxval", maxval, MOST_SAMPLE)):
-        if isinstance(value, bool) or not isinstance(value, SupportsIndex) or not 1 <= operator.index(value) <= most:
+    for name, value, most in (
+        ("columns", columns, MOST_CELLS),
+        ("rows", rows, MOST_CELLS),
+        ("maxval", maxval, MOST_SAMPLE),
+    ):
+        if (
+            isinstance(value, bool)
+            or not isinstance(value, SupportsIndex)
+            or not 1 <= operator.index(value) <= most
+        ):
             raise ValueError(f"{name} must be a whole number from 1 to {most}")
-    if len(cells) != columns * rows or not all(len(cell) == 3 and 0 <= min(cell) <= max(cell) <= maxval for cell in cells):
-        raise ValueError(f"{columns} by {rows} cells need {columns * rows} colours up to {maxval}; not these {len(cells)}")
-    return "\n".join([f"P3\n{columns} {rows}\n{maxval}", *(f"{red:d} {green:d} {blue:d}" for red, green, blue in cells), ""]).encode("ascii")
+    if len(cells) != columns * rows or not all(
+        len(cell) == 3 and 0 <= min(cell) <= max(cell) <= maxval for cell in cells
+    ):
+        raise ValueError(
+            f"{columns} by {rows} cells need {columns * rows} colours up to {maxval}; not these {len(cells)}"
+        )
+    return "\n".join(
+        [
+            f"P3\n{columns} {rows}\n{maxval}",
+            *(f"{red:d} {green:d} {blue:d}" for red, green, blue in cells),
+            "",
+        ]
+    ).encode("ascii")
 
 
 def bytes_of(file: Bytes) -> bytes:
@@ -178,9 +245,16 @@ def _file_of(published: Published) -> Optional[bytes]:
     if isinstance(published, (bytes, bytearray, memoryview)):
         return bytes_of(published)
     try:
-        return bytes_of(b"".join(b"given %d %d\n" % (operator.index(row), operator.index(column)) for row, column in published))
+        return bytes_of(
+            b"".join(
+                b"given %d %d\n" % (operator.index(row), operator.index(column))
+                for row, column in published
+            )
+        )
     except (TypeError, ValueError):
-        raise TypeError("published must be pairs of row and column, a file's bytes, or ANY_GIVEN") from None
+        raise TypeError(
+            "published must be pairs of row and column, a file's bytes, or ANY_GIVEN"
+        ) from None
 
 
 def _allow(allowance: Optional[int]) -> bytes:
@@ -197,7 +271,9 @@ def _allow(allowance: Optional[int]) -> bytes:
 def triple_of(colour: Colour, most: int = MOST_SAMPLE, name: str = "background") -> Colour:
     """A colour as three numbers from 0 to another one."""
     with contextlib.suppress(TypeError, ValueError):
-        red, green, blue = map(operator.index, () if isinstance(colour, (bytes, bytearray, memoryview)) else colour)
+        red, green, blue = map(
+            operator.index, () if isinstance(colour, (bytes, bytearray, memoryview)) else colour
+        )
         if 0 <= min(red, green, blue) <= max(red, green, blue) <= most:
             return red, green, blue
     raise ValueError(f"{name} must be a triple of numbers from 0 to {most}")

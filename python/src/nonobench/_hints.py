@@ -22,4 +22,6 @@ def hint_of(fault: Fault, certificate: Union[bytes, bytearray, memoryview]) -> s
     if fault.text != "certificate NotCert at line 1":
         return ""
     front = bytes(certificate[:64])
-    return _ODD_STARTS.get(front[:2]) or (_CR_LF if front.split(b"\n", 1)[0].endswith(b"\r") else "")
+    return _ODD_STARTS.get(front[:2]) or (
+        _CR_LF if front.split(b"\n", 1)[0].endswith(b"\r") else ""
+    )

@@ -19,7 +19,12 @@ from ._calls import MOST_CELLS, MOST_SAMPLE, Bytes, Colour, bytes_of, picture_of
 
 WHITE: Colour = (255, 255, 255)
 DEEP, PROFILE, GAMMA, FRAMES = "samples of 16 bits", "a colour profile", "a gamma", "several frames"
-SMALL, HALF, LOSSY, TURNED = "a frame smaller than its screen", "half transparent", "lossy", "turned by its orientation"
+SMALL, HALF, LOSSY, TURNED = (
+    "a frame smaller than its screen",
+    "half transparent",
+    "lossy",
+    "turned by its orientation",
+)
 SCALED, BOUNDED = "scaled by its Exif", "more pixels than Pillow's MAX_IMAGE_PIXELS lets it read"
 DAMAGED, UNKNOWN = "damaged", "of a kind that is not read"
 
@@ -37,14 +42,18 @@ class Pixels(NamedTuple):
 
     def triples(self, ground: Colour) -> list[Colour]:
         """The colours of the pixels: of what is transparent, that of the ground."""
-        return [(red, green, blue) if opacity else ground for red, green, blue, opacity in self.cells]
+        return [
+            (red, green, blue) if opacity else ground for red, green, blue, opacity in self.cells
+        ]
 
 
 def colour_shown(colour: Colour, maxval: int) -> Colour:
     """A colour of samples from 0 to maxval as it is shown: from 0 to 255, rounded, halves up. ValueError: it is none of these."""
     if maxval not in range(1, MOST_SAMPLE + 1):
         raise ValueError(f"maxval must be a whole number from 1 to {MOST_SAMPLE}")
-    red, green, blue = ((510 * sample + maxval) // (2 * maxval) for sample in triple_of(colour, maxval, "colour"))
+    red, green, blue = (
+        (510 * sample + maxval) // (2 * maxval) for sample in triple_of(colour, maxval, "colour")
+    )
     return red, green, blue
 
 
@@ -109,7 +118,10 @@ def _bounded(columns: int, rows: int) -> None:
     """A size is refused before anything is unpacked."""
     _need(columns > 0 and rows > 0)
     if columns > MOST_CELLS or rows > MOST_CELLS:
-        raise ImageFault("a size", f"{columns} by {rows} pixels, and a puzzle has at most {MOST_CELLS} by {MOST_CELLS}")
+        raise ImageFault(
+            "a size",
+            f"{columns} by {rows} pixels, and a puzzle has at most {MOST_CELLS} by {MOST_CELLS}",
+        )
 
 
 def _unpacked(kind: str, data: bytes) -> list[bytes]:
@@ -119,7 +131,10 @@ def _unpacked(kind: str, data: bytes) -> list[bytes]:
     with Image.open(io.BytesIO(data), formats=[kind]) as image:
         plain = image.convert("L") if image.mode == "1" else image
         raw, step = plain.tobytes(), len(plain.getbands())
-    _need(not (ImageFile.LOAD_TRUNCATED_IMAGES or kind == "GIF" and step > 1), "not looked at, since Pillow's LOAD_TRUNCATED_IMAGES or LOADING_STRATEGY is set")
+    _need(
+        not (ImageFile.LOAD_TRUNCATED_IMAGES or kind == "GIF" and step > 1),
+        "not looked at, since Pillow's LOAD_TRUNCATED_IMAGES or LOADING_STRATEGY is set",
+    )
     return [raw[at : at + step] for at in range(0, len(raw), step)]
 
 
@@ -136,9 +151,15 @@ def _table(colours: bytes, entry: int = 3) -> list[Pixel]:
 def _need_plain_exif(exif: bytes, columns: int, rows: int) -> None:
     """Refuses Exif that turns a picture or gives another size, as some browsers show it: looked for at each place, in its order."""
     orders = [order for sign, order in ((b"II", "<"), (b"MM", ">")) if sign in exif[:8]]
-    for tag, number, reason in ((0x112, 1, TURNED), (0xA002, columns, SCALED), (0xA003, rows, SCALED)):
+    for tag, number, reason in (
+        (0x112, 1, TURNED),
+        (0xA002, columns, SCALED),
+        (0xA003, rows, SCALED),
+    ):
         for order in orders or "<>":
-            plain = struct.pack(f"{order}HHIH", tag, 3, 1, number), struct.pack(f"{order}HHII", tag, 4, 1, number)
+            plain = struct.pack(f"{order}HHIH", tag, 3, 1, number), struct.pack(
+                f"{order}HHII", tag, 4, 1, number
+            )
             for found in re.finditer(re.escape(plain[0][:2]), exif):
                 _need(exif.startswith(plain, found.start()), reason)
 
@@ -148,8 +169,18 @@ _CHUNKS = {b"IHDR": "H", b"PLTE": "P", b"tRNS": "t", b"IDAT": "D", b"IEND": "E",
 _ORDER = re.compile("H[as]*(Pa*)?(ta*)?D+a*E")
 _CHANNELS = {0: 1, 2: 3, 3: 1, 4: 2, 6: 4}
 _DEPTHS = {0: (1, 2, 4, 8, 16), 2: (8, 16), 3: (1, 2, 4, 8), 4: (8, 16), 6: (8, 16)}
-_PRIMARIES = struct.pack(">8I", 31270, 32900, 64000, 33000, 30000, 60000, 15000, 6000)  # those of sRGB
-_PASSES = ((0, 0, 8, 8), (4, 0, 8, 8), (0, 4, 4, 8), (2, 0, 4, 4), (0, 2, 2, 4), (1, 0, 2, 2), (0, 1, 1, 2))
+_PRIMARIES = struct.pack(
+    ">8I", 31270, 32900, 64000, 33000, 30000, 60000, 15000, 6000
+)  # those of sRGB
+_PASSES = (
+    (0, 0, 8, 8),
+    (4, 0, 8, 8),
+    (0, 4, 4, 8),
+    (2, 0, 4, 4),
+    (0, 2, 2, 4),
+    (1, 0, 2, 2),
+    (0, 1, 1, 2),
+)
 
 
 def _chunks(data: bytes) -> Iterator[tuple[bytes, bytes]]:
@@ -158,7 +189,11 @@ def _chunks(data: bytes) -> Iterator[tuple[bytes, bytes]]:
     while name != b"IEND":
         size, name = struct.unpack_from(">I4s", data, at)
         body = data[at + 8 : at + 8 + size]
-        _need(name.isalpha() and not name[2] & 0x20 and struct.unpack_from(">I", data, at + 8 + size)[0] == zlib.crc32(name + body))
+        _need(
+            name.isalpha()
+            and not name[2] & 0x20
+            and struct.unpack_from(">I", data, at + 8 + size)[0] == zlib.crc32(name + body)
+        )
         yield name, body
         at += 12 + size
 
@@ -175,7 +210,9 @@ def _png(data: bytes) -> Pixels:
     _need_plain_exif(held.get(b"eXIf", b""), columns, rows)
     _need(b"iDOT" not in held, UNKNOWN)  # a second way to the rows, which some browsers go
     _need(depth in _DEPTHS.get(kind, ()) and not any(methods) and laced < 2)
-    _need(kind != 3 or b"bKGD" not in itertools.takewhile(lambda name: name != b"PLTE", held))  # Chromium shows no such image
+    _need(
+        kind != 3 or b"bKGD" not in itertools.takewhile(lambda name: name != b"PLTE", held)
+    )  # Chromium shows no such image
     _need(depth < 16, DEEP)
     # Pillow takes what is missing for black, and a browser for transparent.
     size = sum(
@@ -185,17 +222,32 @@ def _png(data: bytes) -> Pixels:
         if wide > 0
     )
     packed = b"".join(body for name, body in chunks if name == b"IDAT")
-    _need(packed and 1 << (packed[0] >> 4) + 8 >= min(size, 1 << 15), UNKNOWN)  # some keep no more of the rows than it says
-    stream = zlib.decompressobj()  # where it goes wrong behind the last row, browsers leave out rows before it, or all
+    _need(
+        packed and 1 << (packed[0] >> 4) + 8 >= min(size, 1 << 15), UNKNOWN
+    )  # some keep no more of the rows than it says
+    stream = (
+        zlib.decompressobj()
+    )  # where it goes wrong behind the last row, browsers leave out rows before it, or all
     _need(len(stream.decompress(packed, size + MOST_BEHIND)) >= size and stream.eof)
     # Its data as one chunk: Pillow takes long for many.
     parts = {**held, b"IDAT": packed}
     kept = b"".join(
-        struct.pack(">I", len(parts[name])) + name + parts[name] + struct.pack(">I", zlib.crc32(name + parts[name]))
-        for name in (b"IHDR", b"PLTE", b"IDAT", b"IEND") if name in parts
+        struct.pack(">I", len(parts[name]))
+        + name
+        + parts[name]
+        + struct.pack(">I", zlib.crc32(name + parts[name]))
+        for name in (b"IHDR", b"PLTE", b"IDAT", b"IEND")
+        if name in parts
     )
-    pixels = _painted(columns, _unpacked("PNG", data[:8] + kept), _png_pixel(kind, depth, held.get(b"PLTE"), held.get(b"tRNS")))
-    _need(not is_converted or all({*pixel} <= {0, 255} for pixel in set(pixels.cells) if pixel[3]), PROFILE)
+    pixels = _painted(
+        columns,
+        _unpacked("PNG", data[:8] + kept),
+        _png_pixel(kind, depth, held.get(b"PLTE"), held.get(b"tRNS")),
+    )
+    _need(
+        not is_converted or all({*pixel} <= {0, 255} for pixel in set(pixels.cells) if pixel[3]),
+        PROFILE,
+    )
     return pixels
 
 
@@ -210,22 +262,33 @@ def _need_plain_colours(chunks: list[tuple[bytes, bytes]]) -> bool:
     _need(all(body == b"\0\0\xb1\x8f" for name, body in chunks if name == b"gAMA"), GAMMA)
     _need(not names & {b"iCCP", b"cICP"}, PROFILE)
     is_converted = {b"gAMA", b"cHRM"} <= names and b"sRGB" not in names
-    _need(not is_converted or all(body == _PRIMARIES for name, body in chunks if name == b"cHRM"), PROFILE)
+    _need(
+        not is_converted or all(body == _PRIMARIES for name, body in chunks if name == b"cHRM"),
+        PROFILE,
+    )
     _need({body for name, body in chunks if name == b"sRGB"} <= {b"\0", b"\1", b"\2", b"\3"})
     return is_converted
 
 
-def _png_pixel(kind: int, depth: int, colours: Optional[bytes], clear: Optional[bytes]) -> Callable[[bytes], Pixel]:
+def _png_pixel(
+    kind: int, depth: int, colours: Optional[bytes], clear: Optional[bytes]
+) -> Callable[[bytes], Pixel]:
     """How the samples of a pixel are shown."""
     _need(colours is None if kind in (0, 4) else colours is not None or kind != 3)
-    _need(colours is None or (colours and len(colours) % 3 == 0 and len(colours) <= 3 << (depth if kind == 3 else 8)))
+    _need(
+        colours is None
+        or (colours and len(colours) % 3 == 0 and len(colours) <= 3 << (depth if kind == 3 else 8))
+    )
     if kind in (4, 6):
         _need(clear is None)
         return lambda value: tuple(value) if kind == 6 else (value[0],) * 3 + (value[1],)
     if kind == 3:
         assert colours is not None
         _need(len(clear or b"") <= len(colours) // 3)
-        table = [(*colour[:3], opacity) for colour, opacity in zip(_table(colours), (clear or b"").ljust(256, b"\xff"))]
+        table = [
+            (*colour[:3], opacity)
+            for colour, opacity in zip(_table(colours), (clear or b"").ljust(256, b"\xff"))
+        ]
         return lambda value: table[value[0]]
     most = (1 << depth) - 1
     keys = () if clear is None else struct.unpack(">H" if kind == 0 else ">3H", clear)
@@ -252,7 +315,10 @@ def _gif(data: bytes) -> Pixels:
             _need(parts < MOST_PARTS)
             _need(not body.startswith(b"ICCRGBG1"), PROFILE)
             # Where a block does not say how often frames come, browsers show no image.
-            _need(body not in _LOOPS or (more and all(len(block) > 2 and block[0] & 7 in (1, 2) for block in more)))
+            _need(
+                body not in _LOOPS
+                or (more and all(len(block) > 2 and block[0] & 7 in (1, 2) for block in more))
+            )
             if data[begun + 1] == 0xF9:
                 _need(len(body) == 4 and at == begun + 8 and not told)
                 told.append(body[3] if body[0] & 1 else None)
@@ -301,16 +367,38 @@ def _bmp(data: bytes) -> Pixels:
     _need(head <= 64 or data[70:74] in (b"BGRs", b" niW"), PROFILE)
     _need(method == 0 and (bits in (1, 4, 8, 24) or (bits, head) == (32, 40)), UNKNOWN)
     wide = (columns * bits + 31) // 32 * 4
-    _need(14 + head <= start and len(data) >= start + rows * wide)  # not all browsers take headers for pixels
-    lines = [data[start + at * wide : start + (at + 1) * wide] for at in range(rows)[:: 1 if is_down else -1]]
+    _need(
+        14 + head <= start and len(data) >= start + rows * wide
+    )  # not all browsers take headers for pixels
+    lines = [
+        data[start + at * wide : start + (at + 1) * wide]
+        for at in range(rows)[:: 1 if is_down else -1]
+    ]
     if bits > 8:
         step = bits // 8
-        return Pixels(columns, [(*line[at : at + 3][::-1], 255) for line in lines for at in range(0, columns * step, step)])
+        return Pixels(
+            columns,
+            [
+                (*line[at : at + 3][::-1], 255)
+                for line in lines
+                for at in range(0, columns * step, step)
+            ],
+        )
     entry, count = 3 if head == 12 else 4, used or 1 << bits
     _need(count <= 1 << bits and 14 + head + count * entry <= start)
-    table = [(red, green, blue, 255) for blue, green, red, _ in _table(data[14 + head : 14 + head + count * entry], entry)]
+    table = [
+        (red, green, blue, 255)
+        for blue, green, red, _ in _table(data[14 + head : 14 + head + count * entry], entry)
+    ]
     shifts = [8 * wide - bits * (at + 1) for at in range(columns)]
-    return Pixels(columns, [table[int.from_bytes(line, "big") >> shift & (1 << bits) - 1] for line in lines for shift in shifts])
+    return Pixels(
+        columns,
+        [
+            table[int.from_bytes(line, "big") >> shift & (1 << bits) - 1]
+            for line in lines
+            for shift in shifts
+        ],
+    )
 
 
 def _webp(data: bytes) -> Pixels:
@@ -330,7 +418,12 @@ def _webp(data: bytes) -> Pixels:
     _need(b"ICCP" not in held and not flags & 32, PROFILE)
     _need(not held.keys() & {b"VP8 ", b"ALPH"}, LOSSY)
     _need(not flags & 0xC1 and len(front) == 10 * (b"VP8X" in held))
-    _need(names.count(b"VP8L") == 1 and names.count(b"EXIF") < 2 and names[0] in (b"VP8L", b"VP8X") and b"VP8X" not in names[1:])
+    _need(
+        names.count(b"VP8L") == 1
+        and names.count(b"EXIF") < 2
+        and names[0] in (b"VP8L", b"VP8X")
+        and b"VP8X" not in names[1:]
+    )
     pixels = _webp_stream(held[b"VP8L"], front[4:10], bool(front) and not flags & 16)
     _need_plain_exif(held.get(b"EXIF", b""), pixels.columns, len(pixels.cells) // pixels.columns)
     return pixels
@@ -341,13 +434,27 @@ def _webp_stream(stream: bytes, canvas: bytes, is_opaque: bool) -> Pixels:
     sizes = int.from_bytes(stream[1:5], "little")
     columns, rows = (sizes & 0x3FFF) + 1, (sizes >> 14 & 0x3FFF) + 1
     _bounded(columns, rows)
-    _need(stream[0] == 0x2F and canvas in (b"", (columns - 1).to_bytes(3, "little") + (rows - 1).to_bytes(3, "little")))
+    _need(
+        stream[0] == 0x2F
+        and canvas in (b"", (columns - 1).to_bytes(3, "little") + (rows - 1).to_bytes(3, "little"))
+    )
     is_opaque = is_opaque or not stream[4] & 0x10
-    told = b"WEBPVP8L" + struct.pack("<I", len(stream)) + stream[:4] + bytes([stream[4] | 0x10]) + stream[5:]
+    told = (
+        b"WEBPVP8L"
+        + struct.pack("<I", len(stream))
+        + stream[:4]
+        + bytes([stream[4] | 0x10])
+        + stream[5:]
+    )
     # A stream that is cut goes on in what fills up its chunk.
     bodies = [told + more for more in ((b"\0", b"\xff") if len(stream) % 2 else (b"",))]
-    values, *others = [_unpacked("WEBP", b"RIFF" + struct.pack("<I", len(body)) + body) for body in bodies]
-    _need(all(other == values for other in others) and not (is_opaque and any(value[3] < 255 for value in values)))
+    values, *others = [
+        _unpacked("WEBP", b"RIFF" + struct.pack("<I", len(body)) + body) for body in bodies
+    ]
+    _need(
+        all(other == values for other in others)
+        and not (is_opaque and any(value[3] < 255 for value in values))
+    )
     return _painted(columns, values, tuple)
 
 
@@ -381,12 +488,18 @@ def _pnm(data: bytes) -> Pixels:
     _need(most > 0)
     _need(most < 256, DEEP)
     rest, step = data[end:], 3 if kind == 6 else 1
-    samples = _raw_samples(rest, rows, columns * step, kind == 4) if kind > 3 else _plain_samples(rest, rows * columns, kind == 1)
+    samples = (
+        _raw_samples(rest, rows, columns * step, kind == 4)
+        if kind > 3
+        else _plain_samples(rest, rows * columns, kind == 1)
+    )
     _need(len(samples) == rows * columns * step and max(samples) <= most)
     if kind in (1, 4):
         samples = [1 - sample for sample in samples]
     values = [bytes(samples[at : at + step]) * (3 // step) for at in range(0, len(samples), step)]
-    return _painted(columns, values, lambda value: (*colour_shown((value[0], value[1], value[2]), most), 255))
+    return _painted(
+        columns, values, lambda value: (*colour_shown((value[0], value[1], value[2]), most), 255)
+    )
 
 
 def plain_words(text: bytes, most: int) -> list[bytes]:

@@ -31,7 +31,12 @@ def _path() -> str:
         # A name without a slash is looked for by the system.
         return os.path.realpath(named) if os.sep in named else named
     checkout = os.path.dirname(os.path.dirname(os.path.dirname(FOLDER)))
-    return next(filter(os.path.isfile, (os.path.join(FOLDER, NAME), os.path.join(checkout, "c", "out", NAME))), NAME)
+    return next(
+        filter(
+            os.path.isfile, (os.path.join(FOLDER, NAME), os.path.join(checkout, "c", "out", NAME))
+        ),
+        NAME,
+    )
 
 
 def _kinds() -> dict[str, tuple[Any, list[Any]]]:
@@ -43,14 +48,30 @@ def _kinds() -> dict[str, tuple[Any, list[Any]]]:
         "version": (ctypes.c_size_t, [*bytes_of]),
         "start": (number, [cell]),
         "end": (None, [ctypes.c_void_p]),
-        "open": (number, [cell, *bytes_of, ctypes.c_bool, *bytes_of, number, ctypes.POINTER(number)]),
+        "open": (
+            number,
+            [cell, *bytes_of, ctypes.c_bool, *bytes_of, number, ctypes.POINTER(number)],
+        ),
         "say": (number, [cell, number, *bytes_of]),
         "take": (ctypes.c_size_t, [cell, *bytes_of]),
         "close": (number, [cell, number]),
         "check": (number, [cell, *bytes_of, *bytes_of, *bytes_of]),
         "check_published": (number, [cell, *bytes_of, *bytes_of, *bytes_of, *bytes_of]),
         "prove": (number, [cell, *bytes_of, *bytes_of]),
-        "assess": (number, [cell, *bytes_of, ctypes.c_bool, *bytes_of, ctypes.c_bool, *bytes_of, ctypes.c_bool, *bytes_of, number]),
+        "assess": (
+            number,
+            [
+                cell,
+                *bytes_of,
+                ctypes.c_bool,
+                *bytes_of,
+                ctypes.c_bool,
+                *bytes_of,
+                ctypes.c_bool,
+                *bytes_of,
+                number,
+            ],
+        ),
     }
 
 
@@ -65,7 +86,9 @@ class _Calls:
         try:
             call = getattr(ctypes.CDLL(PATH), name)
         except OSError as error:
-            raise ImportError(f"cannot load {PATH}; build it with c/build, or set NONOBENCH_LIBRARY to its path: {error}") from error
+            raise ImportError(
+                f"cannot load {PATH}; build it with c/build, or set NONOBENCH_LIBRARY to its path: {error}"
+            ) from error
         call.restype, call.argtypes = _kinds()[name.removeprefix("nonobench_")]
         setattr(self, name, call)
         return call
@@ -99,30 +122,67 @@ class Desk:
             raise MemoryError("nonobench: memory")
         return self
 
-    def __exit__(self, kind: type[BaseException] | None, error: BaseException | None, at: TracebackType | None) -> None:
+    def __exit__(
+        self,
+        kind: type[BaseException] | None,
+        error: BaseException | None,
+        at: TracebackType | None,
+    ) -> None:
         _calls.nonobench_end(self._cell)
 
-    def check(self, picture: bytes, certificate: bytes, background: bytes, givens: bytes | None) -> int:
+    def check(
+        self, picture: bytes, certificate: bytes, background: bytes, givens: bytes | None
+    ) -> int:
         """Checks a certificate of a picture, with the file of givens that are published if there is one, and answers the status."""
         call = _calls.nonobench_check if givens is None else _calls.nonobench_check_published
-        files = (picture, certificate, background) if givens is None else (picture, certificate, givens, background)
+        files = (
+            (picture, certificate, background)
+            if givens is None
+            else (picture, certificate, givens, background)
+        )
         return int(call(self._at, *(word for file in files for word in (file, len(file)))))
 
     def prove(self, picture: bytes, background: bytes) -> int:
         """Makes a certificate with lemmas of a picture, and answers the status."""
-        return int(_calls.nonobench_prove(self._at, picture, len(picture), background, len(background)))
+        return int(
+            _calls.nonobench_prove(self._at, picture, len(picture), background, len(background))
+        )
 
-    def assess(self, puzzle: bytes, non: bool, background: bytes, givens: bytes, certificate: bytes | None, allowance: int) -> int:
+    def assess(
+        self,
+        puzzle: bytes,
+        non: bool,
+        background: bytes,
+        givens: bytes,
+        certificate: bytes | None,
+        allowance: int,
+    ) -> int:
         """Assesses a puzzle, by a certificate where there is one, and answers the status."""
         held, is_by = certificate or b"", certificate is not None
-        return int(_calls.nonobench_assess(
-            self._at, puzzle, len(puzzle), non, background, len(background), True, givens, len(givens), is_by, held, len(held), allowance
-        ))
+        return int(
+            _calls.nonobench_assess(
+                self._at,
+                puzzle,
+                len(puzzle),
+                non,
+                background,
+                len(background),
+                True,
+                givens,
+                len(givens),
+                is_by,
+                held,
+                len(held),
+                allowance,
+            )
+        )
 
     def open(self, puzzle: bytes, background: bytes, non: bool = False) -> tuple[int, int]:
         """Opens a bench on a puzzle: the status and the handle."""
         handle = ctypes.c_uint32()
-        status = _calls.nonobench_open(self._at, puzzle, len(puzzle), non, background, len(background), 1, ctypes.byref(handle))
+        status = _calls.nonobench_open(
+            self._at, puzzle, len(puzzle), non, background, len(background), 1, ctypes.byref(handle)
+        )
         return status, handle.value
 
     def say(self, handle: int, lines: bytes) -> int:

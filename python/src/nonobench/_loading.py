@@ -8,7 +8,10 @@ import os
 import sys
 
 _PROGRAMS = ("nonobench-audit", "nonobench-check-site")
-_is_ours = os.path.basename(sys.argv[0] if sys.argv else "") in _PROGRAMS and signal.getsignal(signal.SIGINT) is signal.default_int_handler
+_is_ours = (
+    os.path.basename(sys.argv[0] if sys.argv else "") in _PROGRAMS
+    and signal.getsignal(signal.SIGINT) is signal.default_int_handler
+)
 
 
 def _fail(kind, fault, trace):  # type: ignore  # without `types`

@@ -27,7 +27,9 @@ serve(int(sys.argv[3]))"""
 # A write to a process that has ended is an error, and no signal.
 NO_SIGNAL = getattr(socket, "MSG_NOSIGNAL", 0)
 ROOM = 1 << 18  # bytes that are taken together
-ENDING = 2.0  # seconds for a process to end: one that reads from files that do not come cannot be ended
+ENDING = (
+    2.0  # seconds for a process to end: one that reads from files that do not come cannot be ended
+)
 
 Made = TypeVar("Made")
 
@@ -63,7 +65,11 @@ def uninterrupted(call: Callable[[], Made]) -> Made:
 
 def folders() -> list[str]:
     """Where this program finds libraries, but for the current folder, whose files may be a stranger's."""
-    return [way for way in sys.path if os.path.exists(way or ".") and not os.path.samefile(way or ".", ".")]
+    return [
+        way
+        for way in sys.path
+        if os.path.exists(way or ".") and not os.path.samefile(way or ".", ".")
+    ]
 
 
 class Child:
@@ -72,16 +78,37 @@ class Child:
     It runs `serve` of a module with a bound of its memory. More folders with libraries are looked into last.
     """
 
-    def __init__(self, module: str, memory: int, flags: Iterable[str] = (), folders: Iterable[str] = (), **more: Any) -> None:
+    def __init__(
+        self,
+        module: str,
+        memory: int,
+        flags: Iterable[str] = (),
+        folders: Iterable[str] = (),
+        **more: Any,
+    ) -> None:
         self._memory = memory
         self._out: list[memoryview] = []
         self._come = bytearray()
         self._stream, theirs = socket.socketpair()
         self._stream.setblocking(False)
-        words = [sys.executable, "-I", "-X", f"utf8={sys.flags.utf8_mode}", *flags, "-c", _START, FOLDER, f"nonobench.{module}", str(memory), *folders]
+        words = [
+            sys.executable,
+            "-I",
+            "-X",
+            f"utf8={sys.flags.utf8_mode}",
+            *flags,
+            "-c",
+            _START,
+            FOLDER,
+            f"nonobench.{module}",
+            str(memory),
+            *folders,
+        ]
         env = {**os.environ, "NONOBENCH_LIBRARY": PATH}
         with theirs:
-            self._process = subprocess.Popen(words, stdin=theirs.fileno(), stdout=subprocess.PIPE, env=env, **more)
+            self._process = subprocess.Popen(
+                words, stdin=theirs.fileno(), stdout=subprocess.PIPE, env=env, **more
+            )
         self.pid, self._owner, self.is_stopped = self._process.pid, os.getpid(), False
         self.end = weakref.finalize(self, _end, self._process, self._stream, self._owner)
 
@@ -100,7 +127,9 @@ class Child:
             self._stream.recv(1, socket.MSG_PEEK)
         except BlockingIOError:
             return not self._come and not self.is_stopped and self._owner == os.getpid()
-        except OSError as error:  # where the stream is open no other error of the system: a signal's handler may raise one of its own here
+        except (
+            OSError
+        ) as error:  # where the stream is open no other error of the system: a signal's handler may raise one of its own here
             if self.end.alive and not isinstance(error, ConnectionError):
                 raise
         return False
@@ -140,7 +169,9 @@ class Child:
                 raise MemoryError("the worker's answer is larger than its memory")
             if len(self._come) < end:
                 break
-            found.append((number, [bytes(self._come[at : at + size]) for at, size in zip(places, sizes)]))
+            found.append(
+                (number, [bytes(self._come[at : at + size]) for at, size in zip(places, sizes)])
+            )
             del self._come[:end]
         return found
 
@@ -173,7 +204,11 @@ def waited(children: Iterable[Child], seconds: float) -> list[Any]:
     """The processes that have said something, or have ended, within so many seconds. What is on its way goes on."""
     with selectors.PollSelector() as selector:
         for child in children:
-            selector.register(child, selectors.EVENT_READ | (selectors.EVENT_WRITE if child.is_sending else 0), child)
+            selector.register(
+                child,
+                selectors.EVENT_READ | (selectors.EVENT_WRITE if child.is_sending else 0),
+                child,
+            )
         ready = selector.select(seconds)
     for key, mask in ready:
         if mask & selectors.EVENT_WRITE:
@@ -186,7 +221,9 @@ def _end(process: subprocess.Popen[bytes], stream: socket.socket, owner: int) ->
 
     def end() -> None:
         process.kill()
-        with process.stdout or contextlib.nullcontext(), contextlib.suppress(subprocess.TimeoutExpired):
+        with process.stdout or contextlib.nullcontext(), contextlib.suppress(
+            subprocess.TimeoutExpired
+        ):
             process.wait(ENDING)
 
     if os.getpid() == owner:

@@ -26,7 +26,9 @@ FRAME = struct.Struct("!6Q")  # a number, and the sizes of its parts
 LAST = (b"refused: ", b"ambiguous\n", b"undecided ")
 
 
-def answer(kind: int, picture: bytes, background: bytes, rest: bytes, givens: bytes) -> tuple[int, list[bytes]]:
+def answer(
+    kind: int, picture: bytes, background: bytes, rest: bytes, givens: bytes
+) -> tuple[int, list[bytes]]:
     """The status, and the texts that were said. `rest` is the certificate, or the lines. For an assessment it is a line of numbers
     (1 for a .non text, the allowance, 1 where there is a certificate), and then the certificate.
     """
@@ -38,7 +40,9 @@ def answer(kind: int, picture: bytes, background: bytes, rest: bytes, givens: by
         elif kind == ASSESS:
             words, _, certificate = rest.partition(b"\n")
             non, allowance, is_by = map(int, words.split())
-            status = desk.assess(picture, bool(non), background, givens, certificate if is_by else None, allowance)
+            status = desk.assess(
+                picture, bool(non), background, givens, certificate if is_by else None, allowance
+            )
         else:
             status, handle = desk.open(picture, background)
             texts: list[bytes] = []
@@ -104,20 +108,32 @@ def _allow(processor: int) -> None:
         spent = sum(resource.getrusage(resource.RUSAGE_SELF)[:2])
         hard = resource.getrlimit(resource.RLIMIT_CPU)[1]
         most = math.ceil(spent) + processor
-        resource.setrlimit(resource.RLIMIT_CPU, (most if hard == resource.RLIM_INFINITY else min(most, hard), hard))
+        resource.setrlimit(
+            resource.RLIMIT_CPU, (most if hard == resource.RLIM_INFINITY else min(most, hard), hard)
+        )
 
 
 def serve(memory: int) -> None:
     """Answers questions until nobody asks any more. What ends the process: a question that takes too long, and the end of who asks."""
     import _signal as signal  # type: ignore  # as in _loading
     import fcntl
+
     alarm = ctypes.CDLL(None).alarm
     begin(memory)
-    for number in (signal.SIGALRM, signal.SIGXCPU):  # they end it, also where who asks ignores or blocks them
+    for number in (
+        signal.SIGALRM,
+        signal.SIGXCPU,
+    ):  # they end it, also where who asks ignores or blocks them
         signal.signal(number, signal.SIG_DFL)
     signal.pthread_sigmask(signal.SIG_SETMASK, ())
-    for command, value in ((fcntl.F_SETSIG, 9), (fcntl.F_SETOWN, os.getpid()), (fcntl.F_SETFL, os.O_WRONLY | os.O_ASYNC)):
-        fcntl.fcntl(1, command, value)  # killed with who asks, where the system closes the other end of its standard output
+    for command, value in (
+        (fcntl.F_SETSIG, 9),
+        (fcntl.F_SETOWN, os.getpid()),
+        (fcntl.F_SETFL, os.O_WRONLY | os.O_ASYNC),
+    ):
+        fcntl.fcntl(
+            1, command, value
+        )  # killed with who asks, where the system closes the other end of its standard output
     try:
         os.write(1, b"\n")  # an error where that end is closed by now
         while True:

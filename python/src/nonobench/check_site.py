@@ -50,7 +50,9 @@ class Answer(NamedTuple):
     why: str = ""
 
 
-Pair = tuple[str, str, finding.Found]  # a certificate as it is shown, and its path; and the picture that it is for
+Pair = tuple[
+    str, str, finding.Found
+]  # a certificate as it is shown, and its path; and the picture that it is for
 
 
 class Site:
@@ -60,26 +62,53 @@ class Site:
         self._site, self._certificates = told.folder, told.certificates or told.folder
         published = told.givens or (None if told.untrusted else told.folder)
         # The real paths, of which nothing below them may be a link.
-        self._folder, *held = (folder and os.path.realpath(folder) for folder in (told.folder, self._certificates, published))
+        self._folder, *held = (
+            folder and os.path.realpath(folder)
+            for folder in (told.folder, self._certificates, published)
+        )
         self._places = finding.Places(*held, told.untrusted, is_site=True)
         finding.begin(told.folder, told.certificates, told.givens)
-        finding.note(told.folder, (*finding.HELD, *finding.TOLD, *finding.SUFFIXES, finding.FOLDERS))
-        finding.note(told.certificates and self._places.certificates, (*finding.HELD, finding.FOLDERS))
+        finding.note(
+            told.folder, (*finding.HELD, *finding.TOLD, *finding.SUFFIXES, finding.FOLDERS)
+        )
+        finding.note(
+            told.certificates and self._places.certificates, (*finding.HELD, finding.FOLDERS)
+        )
         self._shard, self._givens, self._is_told = told.shard, told.givens, False
         self.unsearched: list[Answer] = []
 
     def certificates(self) -> list[str]:
         """The certificates of a share, in order, one folder after another. What is called so and is no folder is among them.
-        One with the older ending .proof counts where no .cert stands beside it, and is told otherwise."""
-        below = {outer: [*self._below(outer)] for outer in dict.fromkeys((self._certificates, self._site))}
+        One with the older ending .proof counts where no .cert stands beside it, and is told otherwise.
+        """
+        below = {
+            outer: [*self._below(outer)]
+            for outer in dict.fromkeys((self._certificates, self._site))
+        }
         found = {name for name in below[self._certificates] if name.lower().endswith(finding.HELD)}
-        newer = {os.path.splitext(name)[0] for name in found if name.lower().endswith(finding.HELD[0])}
-        older = {name for name in found if not name.lower().endswith(finding.HELD[0]) and os.path.splitext(name)[0] in newer}
-        self.unread = [Answer(os.path.join(self._certificates, name), ACCEPTED, "not read, since a .cert is there") for name in sorted(older)]
-        self._pictures = frozenset(name for name in below[self._site] if name.lower().endswith(".ppm"))
+        newer = {
+            os.path.splitext(name)[0] for name in found if name.lower().endswith(finding.HELD[0])
+        }
+        older = {
+            name
+            for name in found
+            if not name.lower().endswith(finding.HELD[0]) and os.path.splitext(name)[0] in newer
+        }
+        self.unread = [
+            Answer(
+                os.path.join(self._certificates, name), ACCEPTED, "not read, since a .cert is there"
+            )
+            for name in sorted(older)
+        ]
+        self._pictures = frozenset(
+            name for name in below[self._site] if name.lower().endswith(".ppm")
+        )
         self._small = finding.by_small_endings(self._pictures)
         self.found, self._bare = found - older, self._pictures.difference(map(self._called, found))
-        self.bare = [Answer(os.path.join(self._site, name), REFUSED, "no certificate") for name in self._share(self._bare)]
+        self.bare = [
+            Answer(os.path.join(self._site, name), REFUSED, "no certificate")
+            for name in self._share(self._bare)
+        ]
         return self._share(self.found)
 
     def _below(self, outer: str) -> Iterator[str]:
@@ -96,41 +125,73 @@ class Site:
                         elif is_ours and os.path.splitext(entry.name)[1]:
                             yield entry.path.removeprefix(os.path.join(outer, ""))
                         elif is_ours or outer != self._site and not os.path.exists(entry.path):
-                            self.unsearched.append(Answer(entry.path, UNREAD, "nothing is before its ending" if is_ours else "this is a link"))
+                            self.unsearched.append(
+                                Answer(
+                                    entry.path,
+                                    UNREAD,
+                                    "nothing is before its ending" if is_ours else "this is a link",
+                                )
+                            )
             except OSError as error:
                 self.unsearched.append(Answer(os.path.join(place, ""), UNREAD, error.strerror))
 
     def _share(self, names: Iterable[str]) -> list[str]:
         """Those of a share, in order: a certificate that comes in the place of an older one is in its share."""
-        return [name for name in sorted(names, key=os.path.split) if finding.is_in_share(finding.shown(os.path.splitext(name)[0]), self._shard)]
+        return [
+            name
+            for name in sorted(names, key=os.path.split)
+            if finding.is_in_share(finding.shown(os.path.splitext(name)[0]), self._shard)
+        ]
 
     def pairs(self, names: list[str]) -> Iterator[Pair]:
         """Certificates with their pictures, by the one rule of names."""
         for name in names:
-            file, certificate = (os.path.join(way, name) for way in (self._certificates, self._places.certificates or ""))
+            file, certificate = (
+                os.path.join(way, name)
+                for way in (self._certificates, self._places.certificates or "")
+            )
             found = self._picture(name)
             self._is_told = self._is_told or found.is_told()
             yield file, certificate, found
 
     def _called(self, name: str) -> str:
         """The picture that a certificate is for, or would be."""
-        return finding.picture_called(name.rpartition(".")[0], self._pictures, self._small, self._places.certificates != self._folder)
+        return finding.picture_called(
+            name.rpartition(".")[0],
+            self._pictures,
+            self._small,
+            self._places.certificates != self._folder,
+        )
 
     def _picture(self, name: str) -> finding.Found:
         """The picture called so but for the ending, with what goes with it."""
         way, called = os.path.split(self._called(name))
-        return finding.found_in(finding.pictures_in(self._folder, os.path.join(way, ""), self._places), called)
+        return finding.found_in(
+            finding.pictures_in(self._folder, os.path.join(way, ""), self._places), called
+        )
 
     def late(self) -> Iterator[Answer]:
         """What is known once all pairs are answered. Folders are gone through one after another, since few are held."""
-        if self._givens is not None and not (self._is_told or any(self._picture(name).is_told() for name in sorted(self.found | self._bare, key=os.path.split))):
-            yield Answer(os.path.join(self._givens, ""), UNREAD, f"no {finding.UNTOLD} in it is of one of these puzzles")
+        if self._givens is not None and not (
+            self._is_told
+            or any(
+                self._picture(name).is_told()
+                for name in sorted(self.found | self._bare, key=os.path.split)
+            )
+        ):
+            yield Answer(
+                os.path.join(self._givens, ""),
+                UNREAD,
+                f"no {finding.UNTOLD} in it is of one of these puzzles",
+            )
         yield from (Answer(folder, UNREAD, finding.CHANGED) for folder in finding.changed())
 
 
 def _background(path: Optional[str]) -> Optional[Triple]:
     """The background of a picture; nothing for white."""
-    ground = ground_beside(b"white" if path is None else bytes_of(path, "its background: "), "its background")
+    ground = ground_beside(
+        b"white" if path is None else bytes_of(path, "its background: "), "its background"
+    )
     need(not ground.is_corner, "its background must be white or R,G,B")
     return ground.triple
 
@@ -140,7 +201,9 @@ class Checks:
 
     def __init__(self, told: argparse.Namespace) -> None:
         self._jobs, self._allowed = told.jobs, told.allowed
-        self._workers = [Worker(told.seconds, told.memory << 20, told.processor) for _ in range(told.jobs)]  # as many as threads
+        self._workers = [
+            Worker(told.seconds, told.memory << 20, told.processor) for _ in range(told.jobs)
+        ]  # as many as threads
 
     def answers(self, pairs: Iterator[Pair]) -> Iterator[Answer]:
         """What is said of each, in order."""
@@ -156,24 +219,39 @@ class Checks:
             need(not found.why, found.why)
             certificate = bytes_of(path)
             givens = b"" if found.givens is None else bytes_of(found.givens, "its givens: ")
-            said = worker.assess(bytes_of(found.path, "its picture: "), certificate, _background(found.background), givens)
+            said = worker.assess(
+                bytes_of(found.path, "its picture: "),
+                certificate,
+                _background(found.background),
+                givens,
+            )
             flaws = refused_flaws(map(str, said.flaws), self._allowed)
         except Fault as fault:
             hint = hint_of(fault, certificate)
             return Answer(file, REFUSED, f"{fault} ({hint})" if hint else str(fault))
         except (TimeoutError, MemoryError) as error:
             return Answer(file, REFUSED, str(error))
-        except (Unreadable, OSError, RuntimeError) as error:  # of the last ones none is known but of a machine that lacks something
+        except (
+            Unreadable,
+            OSError,
+            RuntimeError,
+        ) as error:  # of the last ones none is known but of a machine that lacks something
             return Answer(file, UNREAD, str(error))
         finally:
             self._workers.append(worker)
-        return Answer(file, REFUSED, "; ".join(f"flaw {flaw}" for flaw in flaws)) if flaws else Answer(file, ACCEPTED)
+        return (
+            Answer(file, REFUSED, "; ".join(f"flaw {flaw}" for flaw in flaws))
+            if flaws
+            else Answer(file, ACCEPTED)
+        )
 
 
 def line_of(answer: Answer) -> str:
     """What is printed of an answer, in one line, whatever its name holds, and in signs that the output has."""
     coding = sys.stdout.encoding or "utf-8"
-    return f"{printable(finding.shown(answer.file))}: {one_line(answer.why)}".encode(coding, "namereplace").decode(coding)
+    return f"{printable(finding.shown(answer.file))}: {one_line(answer.why)}".encode(
+        coding, "namereplace"
+    ).decode(coding)
 
 
 def main(words: Optional[list[str]] = None) -> int:
@@ -201,10 +279,18 @@ def _run(told: argparse.Namespace) -> int:
     site = Site(told)
     names = site.certificates()
     if not site.found:
-        site.unsearched.append(Answer(os.path.join(told.certificates or told.folder, ""), UNREAD, "there is no certificate"))
+        site.unsearched.append(
+            Answer(
+                os.path.join(told.certificates or told.folder, ""),
+                UNREAD,
+                "there is no certificate",
+            )
+        )
     counts = {ACCEPTED: 0, REFUSED: 0, UNREAD: 0}
     required, named = (site.bare, []) if told.every_picture else ([], site.bare)
-    for answer in itertools.chain(site.unsearched, Checks(told).answers(site.pairs(names)), required, site.late()):
+    for answer in itertools.chain(
+        site.unsearched, Checks(told).answers(site.pairs(names)), required, site.late()
+    ):
         counts[answer.status] += 1
         if answer.status != ACCEPTED:
             print(line_of(answer), flush=True)
@@ -212,26 +298,81 @@ def _run(told: argparse.Namespace) -> int:
         print(f"nonobench-check-site: {line_of(answer)}", file=sys.stderr)
     if not told.quiet:
         bare = f", no certificate {len(named)}" if named else ""
-        print(f"accepted {counts[ACCEPTED]}, refused {counts[REFUSED]}, not read {counts[UNREAD]}{bare}", file=sys.stderr)
+        print(
+            f"accepted {counts[ACCEPTED]}, refused {counts[REFUSED]}, not read {counts[UNREAD]}{bare}",
+            file=sys.stderr,
+        )
     return UNREAD if counts[UNREAD] else REFUSED if counts[REFUSED] else ACCEPTED
 
 
 def _parser() -> argparse.ArgumentParser:
     parser = argparse.ArgumentParser(
-        "nonobench-check-site", usage="nonobench-check-site [OPTION].. FOLDER", description=ABOUT, epilog=STATUSES,
-        formatter_class=argparse.RawDescriptionHelpFormatter, allow_abbrev=False,
+        "nonobench-check-site",
+        usage="nonobench-check-site [OPTION].. FOLDER",
+        description=ABOUT,
+        epilog=STATUSES,
+        formatter_class=argparse.RawDescriptionHelpFormatter,
+        allow_abbrev=False,
     )
-    parser.add_argument("folder", metavar="FOLDER", type=_folder, help="the site, with all that is below it")
-    parser.add_argument("--certificates", metavar="DIR", type=_folder, help="certificates are below this folder, not in FOLDER")
-    parser.add_argument("--givens", metavar="DIR", type=_folder, help="NAME.givens and NAME.background are below this folder, not in FOLDER")
-    parser.add_argument("--untrusted", action="store_true", help="for files of strangers: there is no NAME.givens nor NAME.background, but in the folder of --givens")
-    parser.add_argument("--every-picture", action="store_true", help="a .ppm without a certificate is refused")
+    parser.add_argument(
+        "folder", metavar="FOLDER", type=_folder, help="the site, with all that is below it"
+    )
+    parser.add_argument(
+        "--certificates",
+        metavar="DIR",
+        type=_folder,
+        help="certificates are below this folder, not in FOLDER",
+    )
+    parser.add_argument(
+        "--givens",
+        metavar="DIR",
+        type=_folder,
+        help="NAME.givens and NAME.background are below this folder, not in FOLDER",
+    )
+    parser.add_argument(
+        "--untrusted",
+        action="store_true",
+        help="for files of strangers: there is no NAME.givens nor NAME.background, but in the folder of --givens",
+    )
+    parser.add_argument(
+        "--every-picture", action="store_true", help="a .ppm without a certificate is refused"
+    )
     add_allowed(parser)
-    parser.add_argument("--jobs", metavar="N", type=_above_0, default=len(os.sched_getaffinity(0)), help="checks at a time (by default one per processor)")
-    parser.add_argument("--processor", metavar="S", type=_above_0, default=10, help="seconds of processor time for each (by default 10)")
-    parser.add_argument("--seconds", metavar="S", type=_seconds, default=60.0, help="seconds by the clock for each (by default 60)")
-    parser.add_argument("--memory", metavar="MIB", type=_memory, default=1024, help="for each check at a time (by default 1024)")
-    parser.add_argument("--shard", metavar="I/N", type=_shard, default=(1, 1), help="only the I-th of N shares of the certificates, which their names decide")
+    parser.add_argument(
+        "--jobs",
+        metavar="N",
+        type=_above_0,
+        default=len(os.sched_getaffinity(0)),
+        help="checks at a time (by default one per processor)",
+    )
+    parser.add_argument(
+        "--processor",
+        metavar="S",
+        type=_above_0,
+        default=10,
+        help="seconds of processor time for each (by default 10)",
+    )
+    parser.add_argument(
+        "--seconds",
+        metavar="S",
+        type=_seconds,
+        default=60.0,
+        help="seconds by the clock for each (by default 60)",
+    )
+    parser.add_argument(
+        "--memory",
+        metavar="MIB",
+        type=_memory,
+        default=1024,
+        help="for each check at a time (by default 1024)",
+    )
+    parser.add_argument(
+        "--shard",
+        metavar="I/N",
+        type=_shard,
+        default=(1, 1),
+        help="only the I-th of N shares of the certificates, which their names decide",
+    )
     parser.add_argument("--quiet", action="store_true", help="no last line with the counts")
     parser.add_argument("--version", action="version", version=f"%(prog)s {version()}")
     return parser

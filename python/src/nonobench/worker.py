@@ -38,7 +38,9 @@ class Worker(Questions):
     the answer to a later question.
     """
 
-    def __init__(self, seconds: float = 10.0, memory: int = 1 << 30, processor: Optional[int] = None) -> None:
+    def __init__(
+        self, seconds: float = 10.0, memory: int = 1 << 30, processor: Optional[int] = None
+    ) -> None:
         if not isinstance(seconds, (int, float)):
             raise TypeError(f"seconds must be a number, not {type(seconds).__name__}")
         if not 0 < seconds <= threading.TIMEOUT_MAX:
@@ -61,14 +63,21 @@ class Worker(Questions):
 
     def _begin(self) -> None:
         """Begins without a process: also in a child that was forked, which must neither ask nor end its parent's."""
-        self._lock = threading.RLock()  # a signal's handler may call while a call of its thread waits
+        self._lock = (
+            threading.RLock()
+        )  # a signal's handler may call while a call of its thread waits
         self._process: Optional[_Process] = None
         self._asked: Optional[_Process] = None
 
     def __enter__(self) -> Worker:
         return self
 
-    def __exit__(self, kind: type[BaseException] | None, error: BaseException | None, at: TracebackType | None) -> None:
+    def __exit__(
+        self,
+        kind: type[BaseException] | None,
+        error: BaseException | None,
+        at: TracebackType | None,
+    ) -> None:
         self.close()
 
     def close(self) -> None:
@@ -103,7 +112,9 @@ class Worker(Questions):
 
 _WORKERS: weakref.WeakSet[Worker] = weakref.WeakSet()
 if os.name != "nt":
-    os.register_at_fork(after_in_child=lambda: list(map(Worker._begin, _WORKERS)))  # before a thread of the child can call
+    os.register_at_fork(
+        after_in_child=lambda: list(map(Worker._begin, _WORKERS))
+    )  # before a thread of the child can call
 
 
 class _Process(Child):
@@ -114,22 +125,40 @@ class _Process(Child):
 
     def why(self) -> Exception:
         """What is told of a process that ended in the middle of a question: by status 1 Python tells what its program raised. Its status
-        seems to be 0 where it is lost: SIGCHLD is ignored, or another part of the program waits for all that end."""
+        seems to be 0 where it is lost: SIGCHLD is ignored, or another part of the program waits for all that end.
+        """
         if self.is_stopped:
             return RuntimeError("the worker was closed while it was asked")
         has_begun, status = self.has_begun(), self.status()
         if status == 1:
             return RuntimeError("the worker's program failed; it says why on standard error")
-        if status == -signal.SIGXCPU or has_begun and status == 0 and time.monotonic() >= self._spent:
+        if (
+            status == -signal.SIGXCPU
+            or has_begun
+            and status == 0
+            and time.monotonic() >= self._spent
+        ):
             return TimeoutError("no answer within its processor time")
         is_python = has_begun or status < 0 or status == NO_MEMORY
-        return MemoryError("the worker ended") if is_python else OSError(_NO_PYTHON.format(sys.executable))
+        return (
+            MemoryError("the worker ended")
+            if is_python
+            else OSError(_NO_PYTHON.format(sys.executable))
+        )
 
-    def ask(self, number: int, kind: int, files: tuple[bytes, ...], seconds: float, processor: int) -> tuple[int, list[bytes]]:
+    def ask(
+        self, number: int, kind: int, files: tuple[bytes, ...], seconds: float, processor: int
+    ) -> tuple[int, list[bytes]]:
         """The status and the texts that come for a question. Raises TimeoutError where they come too late, and EOFError where none do."""
         deadline = time.monotonic() + seconds
-        self._spent = time.monotonic() + (processor or math.inf)  # before that it has not had its processor time
-        self.send(number, b"%d %d %d" % (kind, min(math.ceil(seconds) + _GRACE, _MOST_ALARM), processor), *files)
+        self._spent = time.monotonic() + (
+            processor or math.inf
+        )  # before that it has not had its processor time
+        self.send(
+            number,
+            b"%d %d %d" % (kind, min(math.ceil(seconds) + _GRACE, _MOST_ALARM), processor),
+            *files,
+        )
         while not (answers := self.answers()):
             left = deadline - time.monotonic()
             if left <= 0:

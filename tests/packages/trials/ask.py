@@ -11,7 +11,9 @@ import nonobench
 
 def main(names: list[str]) -> int:
     picture, certificate = (Path(name).read_bytes() for name in names[:2])
-    published = [(int(row), int(column)) for row, column in (place.split(",") for place in names[2:])]
+    published = [
+        (int(row), int(column)) for row, column in (place.split(",") for place in names[2:])
+    ]
     try:
         result = nonobench.check(picture, certificate, published=published)
     except nonobench.CertificateFault as fault:

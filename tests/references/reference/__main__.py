@@ -14,10 +14,14 @@ from .checks import answer
 
 def main():
     """The command."""
-    if len(sys.argv) not in (3, 4) or not re.fullmatch('[0-9]+,[0-9]+,[0-9]+', (sys.argv[3:] or ['0,0,0'])[0]):
+    if len(sys.argv) not in (3, 4) or not re.fullmatch(
+        '[0-9]+,[0-9]+,[0-9]+', (sys.argv[3:] or ['0,0,0'])[0]
+    ):
         print(__doc__.strip(), file=sys.stderr)
         return 2
-    background = tuple(int(sample) for sample in sys.argv[3].split(',')) if len(sys.argv) == 4 else None
+    background = (
+        tuple(int(sample) for sample in sys.argv[3].split(',')) if len(sys.argv) == 4 else None
+    )
     try:
         picture, text = (Path(name).read_bytes() for name in sys.argv[1:3])
     except OSError as error:

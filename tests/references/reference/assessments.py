@@ -22,7 +22,10 @@ open N
 )?((flaw given|unknown given|flaw spare) N N
 )?(flaw alike [.a-o] [.a-o]
 )*(fit|unfit)
-""".replace('N', '(?:0|[1-9][0-9]*)').encode())
+""".replace(
+        'N', '(?:0|[1-9][0-9]*)'
+    ).encode()
+)
 
 
 def read_assessment(text, at=0):
@@ -39,7 +42,11 @@ class Solving:
         for row in rows:
             for colour in row:
                 occur |= 1 << colour
-        self.left = [1 << colour if (r, c) in givens else occur for r, row in enumerate(rows) for c, colour in enumerate(row)]
+        self.left = [
+            1 << colour if (r, c) in givens else occur
+            for r, row in enumerate(rows)
+            for c, colour in enumerate(row)
+        ]
         self.lines = lines_of(height, self.width)
         self.clues = clues_of(rows)
         self.due = {line for line, _ in self.lines}
@@ -73,7 +80,9 @@ class Solving:
             if gone:
                 excluded += gone.bit_count()
                 self.left[cell] = after[at]
-                self.due.add(('c', cell % self.width) if line[0] == 'r' else ('r', cell // self.width))
+                self.due.add(
+                    ('c', cell % self.width) if line[0] == 'r' else ('r', cell // self.width)
+                )
                 if not after[at] & (after[at] - 1):
                     falls.append(f' {at + 1}={letter(after[at].bit_length() - 1)}')
         self.rounds = number
@@ -94,8 +103,9 @@ class Solving:
 @lru_cache
 def lines_of(height, width):
     """The names of all lines, rows first, each with the numbers of its cells."""
-    return ([(('r', r), [r * width + c for c in range(width)]) for r in range(height)]
-            + [(('c', c), [r * width + c for r in range(height)]) for c in range(width)])
+    return [(('r', r), [r * width + c for c in range(width)]) for r in range(height)] + [
+        (('c', c), [r * width + c for r in range(height)]) for c in range(width)
+    ]
 
 
 def word_of(rounds, wait, opened, splits, depth):
@@ -118,14 +128,21 @@ def are_too_similar(one, other, maxval):
     """Whether two colours are too similar."""
     (r, g, b), (red, green, blue) = shown(one, maxval), shown(other, maxval)
     s = r + red
-    return (1024 + s) * (r - red) ** 2 + 2048 * (g - green) ** 2 + (1534 - s) * (b - blue) ** 2 < 2_097_152
+    return (1024 + s) * (r - red) ** 2 + 2048 * (g - green) ** 2 + (1534 - s) * (
+        b - blue
+    ) ** 2 < 2_097_152
 
 
 def alike(document):
     """The pairs of colours that are too similar, of those that cells have and the background."""
     seen = sorted({0}.union(*document.rows))
-    return [(one, other) for one in seen for other in seen
-            if one < other and are_too_similar(document.colours[one], document.colours[other], document.maxval)]
+    return [
+        (one, other)
+        for one in seen
+        for other in seen
+        if one < other
+        and are_too_similar(document.colours[one], document.colours[other], document.maxval)
+    ]
 
 
 def by_listing(rows):
@@ -135,6 +152,7 @@ def by_listing(rows):
     def verdict(givens):
         left = close(clues, base_of(rows, givens))
         return 'unique' if len(pictures_with(clues, height, width, left, 2)) == 1 else 'ambiguous'
+
     return verdict
 
 
@@ -158,7 +176,13 @@ class Assessment:
     def lines(self, other=(), guesses=None):
         """All lines. `other` are the rows of another picture, and `guesses` the splits and the depth of the certificate from which the
         grade is taken, if one is found; each counts only where it is asked for."""
-        return [self.word, *(other if self.word == 'ambiguous' else ()), *self.sizes(), *self.grade(guesses), *self.end()]
+        return [
+            self.word,
+            *(other if self.word == 'ambiguous' else ()),
+            *self.sizes(),
+            *self.grade(guesses),
+            *self.end(),
+        ]
 
     def end(self):
         """The lines behind the grade."""
@@ -169,8 +193,12 @@ class Assessment:
     def sizes(self):
         """The lines of numbers."""
         rows = self.document.rows
-        return [f'size {len(rows)} {len(rows[0])}', f'colours {len(self.seen)}', f'givens {len(self.document.givens)}',
-                f'open {self.open}']
+        return [
+            f'size {len(rows)} {len(rows[0])}',
+            f'colours {len(self.seen)}',
+            f'givens {len(self.document.givens)}',
+            f'open {self.open}',
+        ]
 
     def grade(self, guesses):
         """The line of the grade, if there is one solution."""
@@ -181,7 +209,10 @@ class Assessment:
         figures = f'{solving.rounds} {solving.looks} {solving.wait}'
         if guesses is None:
             return [f'grade unknown {figures}']
-        return ['grade %s %s %d %d' % (word_of(solving.rounds, solving.wait, self.open, *guesses), figures, *guesses)]
+        return [
+            'grade %s %s %d %d'
+            % (word_of(solving.rounds, solving.wait, self.open, *guesses), figures, *guesses)
+        ]
 
     def flaws(self):
         """The lines of flaws, and that of a given of which nothing is known."""
@@ -192,7 +223,9 @@ class Assessment:
             lines += self.spare()
         elif self.word == 'unique':
             lines += self.given()
-        return lines + [f'flaw alike {letter(one)} {letter(other)}' for one, other in alike(self.document)]
+        return lines + [
+            f'flaw alike {letter(one)} {letter(other)}' for one, other in alike(self.document)
+        ]
 
     def given(self):
         """The first given without which there is still one solution, or else the first for which that is left open."""
@@ -209,11 +242,17 @@ class Assessment:
     def spare(self):
         """The first published cell that the certificate does not name."""
         _, named, _, _ = plain_forms.read_certificate(self.certificate)
-        spare = [(row + 1, col + 1) for row, col in sorted(self.document.givens) if (row + 1, col + 1) not in named]
+        spare = [
+            (row + 1, col + 1)
+            for row, col in sorted(self.document.givens)
+            if (row + 1, col + 1) not in named
+        ]
         return [f'flaw spare {row} {col}' for row, col in spare[:1]]
 
 
 def guesses_of(document, certificate):
     """The splits of a certificate that proves a document with its givens, and their depth; or the certificate's fault."""
     published = {(row + 1, col + 1) for row, col in document.givens}
-    return plain_forms.check(plain_forms.Puzzle(document.ordered().rows), certificate, published)[1:]
+    return plain_forms.check(plain_forms.Puzzle(document.ordered().rows), certificate, published)[
+        1:
+    ]

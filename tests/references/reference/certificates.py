@@ -5,7 +5,9 @@ from .faults import Fault
 from .lines import base_of, clues_of, line_of, narrow, put_line
 
 NUMBER = rb'(0|[1-9][0-9]{0,2})'
-LINE = re.compile(rb'(?:(line|dead) ([rc]) ' + NUMBER + rb'|(split) ' + NUMBER + rb' ' + NUMBER + rb'|(done))')
+LINE = re.compile(
+    rb'(?:(line|dead) ([rc]) ' + NUMBER + rb'|(split) ' + NUMBER + rb' ' + NUMBER + rb'|(done))'
+)
 GIVEN = re.compile(rb'given ' + NUMBER + rb' ' + NUMBER)
 
 
@@ -141,7 +143,12 @@ def some_cert(rows, givens, chance, most=60):
 def some_line(walk, chance):
     """A lawful next line of a tree, mostly one that brings its end nearer."""
     facts = walk.waiting[-1]
-    unsure = [(r, c) for r, row in enumerate(facts) for c, mask in enumerate(row) if mask & ~(1 << walk.rows[r][c])]
+    unsure = [
+        (r, c)
+        for r, row in enumerate(facts)
+        for c, mask in enumerate(row)
+        if mask & ~(1 << walk.rows[r][c])
+    ]
     if not unsure:
         return ('done',)
     useful = []
@@ -157,8 +164,11 @@ def some_line(walk, chance):
         axis, at = chance.choice(useful)
         return ('line', axis, at + 1)
     if not useful or draw < 0.95:
-        row, col = chance.choice(unsure) if chance.random() < 0.8 else (
-            chance.randrange(walk.height), chance.randrange(walk.width))
+        row, col = (
+            chance.choice(unsure)
+            if chance.random() < 0.8
+            else (chance.randrange(walk.height), chance.randrange(walk.width))
+        )
         return ('split', row + 1, col + 1)
     axis, at = chance.choice(list(walk.clues))
     return ('line', axis, at + 1)

@@ -4,12 +4,63 @@ import re
 from .certificates import some_cert
 from .lines import clue_of
 
-NUMBERS = [b'0', b'1', b'2', b'9', b'16', b'17', b'119', b'120', b'121', b'200', b'201', b'255', b'256', b'257', b'999',
-           b'1000', b'65535', b'65536', b'99999', b'100000', b'00', b'007', b'000001', b'0' * 40 + b'3', b'9' * 30, b'-1',
-           b'+1', b'1e2', b'1.0', b'4294967296', b'4294967297', b'18446744073709551616', b'18446744073709551617',
-           b'340282366920938463463374607431768211457', b'\xd9\xa1', b'', b',', b'"']
+NUMBERS = [
+    b'0',
+    b'1',
+    b'2',
+    b'9',
+    b'16',
+    b'17',
+    b'119',
+    b'120',
+    b'121',
+    b'200',
+    b'201',
+    b'255',
+    b'256',
+    b'257',
+    b'999',
+    b'1000',
+    b'65535',
+    b'65536',
+    b'99999',
+    b'100000',
+    b'00',
+    b'007',
+    b'000001',
+    b'0' * 40 + b'3',
+    b'9' * 30,
+    b'-1',
+    b'+1',
+    b'1e2',
+    b'1.0',
+    b'4294967296',
+    b'4294967297',
+    b'18446744073709551616',
+    b'18446744073709551617',
+    b'340282366920938463463374607431768211457',
+    b'\xd9\xa1',
+    b'',
+    b',',
+    b'"',
+]
 BYTES = b' \t\n\r\x0b\x0c#0123456789,"-P.aoz\x00\xff\x85\xa0'
-GAPS = [b' ', b' ', b'\n', b'\n', b'\t', b'\r', b'\r\n', b'\x0b', b'\x0c', b'  ', b'#\n', b' # note 1 2\n', b'#x\r', b'\n#\r\n']
+GAPS = [
+    b' ',
+    b' ',
+    b'\n',
+    b'\n',
+    b'\t',
+    b'\r',
+    b'\r\n',
+    b'\x0b',
+    b'\x0c',
+    b'  ',
+    b'#\n',
+    b' # note 1 2\n',
+    b'#x\r',
+    b'\n#\r\n',
+]
 
 
 def some_rows(chance, most, colours):
@@ -17,11 +68,18 @@ def some_rows(chance, most, colours):
     height, width = chance.randint(1, most), chance.randint(1, most)
     style = chance.random()
     full = chance.random()
-    rows = [[chance.randrange(1, colours) if colours > 1 and chance.random() < full else 0 for _ in range(width)]
-            for _ in range(height)]
+    rows = [
+        [
+            chance.randrange(1, colours) if colours > 1 and chance.random() < full else 0
+            for _ in range(width)
+        ]
+        for _ in range(height)
+    ]
     if style < 0.25:
-        rows = [[rows[0][0] if (row + col) % chance.choice((2, 3)) == 0 else 0 for col in range(width)]
-                for row in range(height)]
+        rows = [
+            [rows[0][0] if (row + col) % chance.choice((2, 3)) == 0 else 0 for col in range(width)]
+            for row in range(height)
+        ]
     elif style < 0.4:
         rows = some_corners(chance, most, colours)
     elif style < 0.55:
@@ -60,8 +118,20 @@ def some_triples(chance, count, maxval):
 def mutated(chance, text, times):
     """A text with some changes: bytes, words or lines taken out, put in, doubled or exchanged."""
     for _ in range(times):
-        change = chance.choice((take_out, put_in, other_byte, double, cut_off, other_word, other_word, exchange_lines,
-                                take_out_line, double_line))
+        change = chance.choice(
+            (
+                take_out,
+                put_in,
+                other_byte,
+                double,
+                cut_off,
+                other_word,
+                other_word,
+                exchange_lines,
+                take_out_line,
+                double_line,
+            )
+        )
         text = change(chance, text)
     return text
 
@@ -74,7 +144,7 @@ def place(chance, text):
 def take_out(chance, text):
     """A few bytes less."""
     at = place(chance, text)
-    return text[:at] + text[at + chance.choice((1, 1, 2, 4)):]
+    return text[:at] + text[at + chance.choice((1, 1, 2, 4)) :]
 
 
 def put_in(chance, text):
@@ -86,7 +156,7 @@ def put_in(chance, text):
 def other_byte(chance, text):
     """One byte exchanged."""
     at = place(chance, text)
-    return text[:at] + bytes((chance.choice(BYTES),)) + text[at + 1:]
+    return text[:at] + bytes((chance.choice(BYTES),)) + text[at + 1 :]
 
 
 def double(chance, text):
@@ -98,7 +168,7 @@ def double(chance, text):
 
 def cut_off(chance, text):
     """The end missing."""
-    return text[:place(chance, text)]
+    return text[: place(chance, text)]
 
 
 def other_word(chance, text):
@@ -107,7 +177,7 @@ def other_word(chance, text):
     if not words:
         return put_in(chance, text)
     word = chance.choice(words)
-    return text[:word.start()] + chance.choice(NUMBERS) + text[word.end():]
+    return text[: word.start()] + chance.choice(NUMBERS) + text[word.end() :]
 
 
 def exchange_lines(chance, text):
@@ -142,7 +212,11 @@ def ppm_text(chance, rows, triples, maxval):
     plain = chance.random() < 0.4
 
     def gap():
-        return b'\n' if plain else b''.join(chance.choice(GAPS) for _ in range(chance.choice((1, 1, 1, 2))))
+        return (
+            b'\n'
+            if plain
+            else b''.join(chance.choice(GAPS) for _ in range(chance.choice((1, 1, 1, 2))))
+        )
 
     def number(value):
         zeros = 0 if plain or chance.random() < 0.9 else chance.choice((1, 3, 20))
@@ -171,17 +245,32 @@ def some_non(chance, most):
 
     def clue_line(cells):
         comma = chance.choice((b',', b',', b' , ', b',\t'))
-        line = comma.join(b'0' * chance.choice((0, 0, 2)) + str(length).encode() for length, _ in clue_of(cells)) or empty
+        line = (
+            comma.join(
+                b'0' * chance.choice((0, 0, 2)) + str(length).encode()
+                for length, _ in clue_of(cells)
+            )
+            or empty
+        )
         return chance.choice((b'', b'', b' ')) + line + chance.choice((b'', b'', b' \t'))
 
     digits = ''.join(str(colour) for row in rows for colour in row).encode()
-    goal = chance.choice((b'goal "%s"', b'goal %s', b'goal "%s" ', b'goal\t%s', b' goal "%s"')) % digits
-    blocks = [[b'width %d' % len(rows[0])], [b'height %d' % len(rows)], [b'rows'] + [clue_line(row) for row in rows],
-              [b'columns'] + [clue_line(column) for column in zip(*rows)]]
+    goal = (
+        chance.choice((b'goal "%s"', b'goal %s', b'goal "%s" ', b'goal\t%s', b' goal "%s"'))
+        % digits
+    )
+    blocks = [
+        [b'width %d' % len(rows[0])],
+        [b'height %d' % len(rows)],
+        [b'rows'] + [clue_line(row) for row in rows],
+        [b'columns'] + [clue_line(column) for column in zip(*rows)],
+    ]
     if chance.random() < 0.7:
         blocks.append([goal])
     if chance.random() < 0.3:
-        blocks.append([chance.choice((b'title "x"', b'copyright "\xa9"', b'goal2 1', b'catalogue 1'))])
+        blocks.append(
+            [chance.choice((b'title "x"', b'copyright "\xa9"', b'goal2 1', b'catalogue 1'))]
+        )
     if chance.random() < 0.4:
         chance.shuffle(blocks)
     lines = [line for block in blocks for line in block]
@@ -208,15 +297,28 @@ def other_tree(chance, cert, height, width):
     lines = cert.split(b'\n')
     at = chance.randrange(1, max(2, len(lines)))
     row, col = chance.randint(0, height + 1), chance.randint(0, width + 1)
-    line = chance.choice((b'line r %d' % row, b'line c %d' % col, b'dead r %d' % row, b'dead c %d' % col,
-                          b'split %d %d' % (row, col), b'done', b'given %d %d' % (row, col)))
-    lines[at:at + chance.randint(0, 1)] = [line] if chance.random() < 0.8 else []
+    line = chance.choice(
+        (
+            b'line r %d' % row,
+            b'line c %d' % col,
+            b'dead r %d' % row,
+            b'dead c %d' % col,
+            b'split %d %d' % (row, col),
+            b'done',
+            b'given %d %d' % (row, col),
+        )
+    )
+    lines[at : at + chance.randint(0, 1)] = [line] if chance.random() < 0.8 else []
     return b'\n'.join(lines)
 
 
 def some_place(chance, most):
     """A place from 1 on, mostly in the picture."""
-    return chance.randint(1, most + 1) if chance.random() < 0.95 else chance.choice((0, 1, 119, 120, 121, 256, 257))
+    return (
+        chance.randint(1, most + 1)
+        if chance.random() < 0.95
+        else chance.choice((0, 1, 119, 120, 121, 256, 257))
+    )
 
 
 def some_colour(chance, colours):
@@ -236,6 +338,7 @@ def some_triple(chance, triples):
 
 def some_command(chance, height, width, triples, heed):
     """A command of a session; where verdicts are heeded, one that moves a verdict or asks for it."""
+
     def row():
         return some_place(chance, height)
 
@@ -247,18 +350,48 @@ def some_command(chance, height, width, triples, heed):
 
     small = chance.choice((0, 0, 1, 1, 2, 3))
     made = (  # how often in general, how often where verdicts are heeded, and the words
-        (10, 4, lambda: ('paint', row(), col(), colour())), (3, 0, lambda: ('fill', row(), col(), row(), col(), colour())),
-        (2, 0, lambda: ('recolour', colour(), colour())), (1, 1, lambda: ('insert row', row())),
-        (1, 0, lambda: ('insert column', col())), (2, 0, lambda: ('delete row', row())),
-        (2, 0, lambda: ('delete column', col())), (2, 0, lambda: ('swap row', row(), row())),
-        (2, 1, lambda: ('swap column', col(), col())), (2, 0, lambda: ('colour add', *some_triple(chance, triples))),
-        (2, 0, lambda: ('colour set', colour(), *some_triple(chance, triples))), (4, 2, lambda: ('pin', row(), col())),
-        (2, 1, lambda: ('unpin', row(), col())), (5, 3, lambda: ('undo',)), (3, 2, lambda: ('redo',)),
-        (3, 0, lambda: ('clues',)), (4, 0, lambda: ('map',)), (6, 12, lambda: ('verdict',)), (3, 1, lambda: ('report',)),
-        (8, 0, lambda: ('why', row(), col(), '.abcdefghijklmno'[chance.randrange(16)] if chance.random() < 0.3 else colour())),
-        (3, 1, lambda: ('certify',)), (1, 0, lambda: ('write ppm',)), (1, 0, lambda: ('write non',)),
-        (3, 4, lambda: ('assess', *chance.choice(((), (), ('named',), ('name',))))), (2, 0, lambda: ('path',)),
-        (3, 8, lambda: ('allow', small if heed else chance.choice(('off', 'off', 0, 1, 2, 3, 5, 99999, 100000)))),
+        (10, 4, lambda: ('paint', row(), col(), colour())),
+        (3, 0, lambda: ('fill', row(), col(), row(), col(), colour())),
+        (2, 0, lambda: ('recolour', colour(), colour())),
+        (1, 1, lambda: ('insert row', row())),
+        (1, 0, lambda: ('insert column', col())),
+        (2, 0, lambda: ('delete row', row())),
+        (2, 0, lambda: ('delete column', col())),
+        (2, 0, lambda: ('swap row', row(), row())),
+        (2, 1, lambda: ('swap column', col(), col())),
+        (2, 0, lambda: ('colour add', *some_triple(chance, triples))),
+        (2, 0, lambda: ('colour set', colour(), *some_triple(chance, triples))),
+        (4, 2, lambda: ('pin', row(), col())),
+        (2, 1, lambda: ('unpin', row(), col())),
+        (5, 3, lambda: ('undo',)),
+        (3, 2, lambda: ('redo',)),
+        (3, 0, lambda: ('clues',)),
+        (4, 0, lambda: ('map',)),
+        (6, 12, lambda: ('verdict',)),
+        (3, 1, lambda: ('report',)),
+        (
+            8,
+            0,
+            lambda: (
+                'why',
+                row(),
+                col(),
+                '.abcdefghijklmno'[chance.randrange(16)] if chance.random() < 0.3 else colour(),
+            ),
+        ),
+        (3, 1, lambda: ('certify',)),
+        (1, 0, lambda: ('write ppm',)),
+        (1, 0, lambda: ('write non',)),
+        (3, 4, lambda: ('assess', *chance.choice(((), (), ('named',), ('name',))))),
+        (2, 0, lambda: ('path',)),
+        (
+            3,
+            8,
+            lambda: (
+                'allow',
+                small if heed else chance.choice(('off', 'off', 0, 1, 2, 3, 5, 99999, 100000)),
+            ),
+        ),
         (0, 2, lambda: ('allow off',)),
     )
     weights = [heeded if heed else general for general, heeded, _ in made]
@@ -268,11 +401,22 @@ def some_command(chance, height, width, triples, heed):
 def broken_line(chance, line):
     """A line with another layout or a fault."""
     blank = b' ' * chance.choice((180, 197, 198, 199, 200, 201, 300, 5000))
-    return chance.choice((
-        lambda: mutated(chance, line, 1), lambda: line + b' 1', lambda: line.replace(b' ', b'\t '), lambda: b' ' + line + b' ',
-        lambda: (line + blank)[:chance.choice((199, 200, 201, 202))], lambda: blank, lambda: b'', lambda: line + b'\r',
-        lambda: line.rsplit(b' ', 1)[0], lambda: line.upper(), lambda: line + b'\x00', lambda: line.replace(b' ', b'\x0b'),
-    ))()
+    return chance.choice(
+        (
+            lambda: mutated(chance, line, 1),
+            lambda: line + b' 1',
+            lambda: line.replace(b' ', b'\t '),
+            lambda: b' ' + line + b' ',
+            lambda: (line + blank)[: chance.choice((199, 200, 201, 202))],
+            lambda: blank,
+            lambda: b'',
+            lambda: line + b'\r',
+            lambda: line.rsplit(b' ', 1)[0],
+            lambda: line.upper(),
+            lambda: line + b'\x00',
+            lambda: line.replace(b' ', b'\x0b'),
+        )
+    )()
 
 
 def some_session(chance, rows, triples, count):

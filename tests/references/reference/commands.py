@@ -9,17 +9,29 @@ TABLE = {
     ('paint',): (PLACE, PLACE, COLOUR),
     ('fill',): (PLACE, PLACE, PLACE, PLACE, COLOUR),
     ('recolour',): (COLOUR, COLOUR),
-    ('insert', 'row'): (PLACE,), ('insert', 'column'): (PLACE,),
-    ('delete', 'row'): (PLACE,), ('delete', 'column'): (PLACE,),
-    ('swap', 'row'): (PLACE, PLACE), ('swap', 'column'): (PLACE, PLACE),
+    ('insert', 'row'): (PLACE,),
+    ('insert', 'column'): (PLACE,),
+    ('delete', 'row'): (PLACE,),
+    ('delete', 'column'): (PLACE,),
+    ('swap', 'row'): (PLACE, PLACE),
+    ('swap', 'column'): (PLACE, PLACE),
     ('colour', 'add'): (SAMPLE, SAMPLE, SAMPLE),
     ('colour', 'set'): (COLOUR, SAMPLE, SAMPLE, SAMPLE),
-    ('pin',): (PLACE, PLACE), ('unpin',): (PLACE, PLACE),
-    ('undo',): (), ('redo',): (), ('clues',): (), ('map',): (), ('verdict',): (), ('report',): (),
+    ('pin',): (PLACE, PLACE),
+    ('unpin',): (PLACE, PLACE),
+    ('undo',): (),
+    ('redo',): (),
+    ('clues',): (),
+    ('map',): (),
+    ('verdict',): (),
+    ('report',): (),
     ('why',): (PLACE, PLACE, COLOUR),
     ('certify',): (),
-    ('assess',): (), ('assess', 'named'): (), ('path',): (),
-    ('write', 'ppm'): (), ('write', 'non'): (),
+    ('assess',): (),
+    ('assess', 'named'): (),
+    ('path',): (),
+    ('write', 'ppm'): (),
+    ('write', 'non'): (),
     ('allow',): (SPLITS,),
 }
 TWO_WORDS = {words[0] for words in TABLE if len(words) == 2}
@@ -63,7 +75,7 @@ def command_of(line):
         if key not in TABLE:
             raise Fault('UnknownWord')
     kinds = TABLE[key]
-    rest = words[len(key):]
+    rest = words[len(key) :]
     if len(rest) != len(kinds):
         raise Fault('WordCount')
     return key, [value_of(kind, word) for kind, word in zip(kinds, rest)]

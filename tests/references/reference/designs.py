@@ -2,9 +2,21 @@
 from .faults import Fault
 from .pictures import MAX_COLOURS, MAX_SIDE
 
-EDITS = {('paint',), ('fill',), ('recolour',), ('insert', 'row'), ('insert', 'column'), ('delete', 'row'),
-         ('delete', 'column'), ('swap', 'row'), ('swap', 'column'), ('colour', 'add'), ('colour', 'set'), ('pin',),
-         ('unpin',)}
+EDITS = {
+    ('paint',),
+    ('fill',),
+    ('recolour',),
+    ('insert', 'row'),
+    ('insert', 'column'),
+    ('delete', 'row'),
+    ('delete', 'column'),
+    ('swap', 'row'),
+    ('swap', 'column'),
+    ('colour', 'add'),
+    ('colour', 'set'),
+    ('pin',),
+    ('unpin',),
+}
 
 
 def refuse(condition, name):
@@ -46,7 +58,13 @@ def paint(document, row, col, colour):
 
 def fill(document, top, left, bottom, right, colour):
     """A colour in a rectangle with its corners."""
-    refuse(outside(document, top, left) or outside(document, bottom, right) or bottom < top or right < left, 'Place')
+    refuse(
+        outside(document, top, left)
+        or outside(document, bottom, right)
+        or bottom < top
+        or right < left,
+        'Place',
+    )
     refuse(colour >= len(document.colours), 'Colour')
     for row in range(top, bottom + 1):
         for col in range(left, right + 1):
@@ -57,7 +75,9 @@ def fill(document, top, left, bottom, right, colour):
 def recolour(document, source, target):
     """Each cell of one colour in another."""
     refuse(max(source, target) >= len(document.colours), 'Colour')
-    document.rows = [[target if colour == source else colour for colour in row] for row in document.rows]
+    document.rows = [
+        [target if colour == source else colour for colour in row] for row in document.rows
+    ]
     return document
 
 
@@ -101,7 +121,9 @@ def set_colour(document, colour, *triple):
     """Another triple for a colour."""
     refuse(colour >= len(document.colours), 'Colour')
     refuse(max(triple) > document.maxval, 'SampleOver')
-    refuse(triple in document.colours and document.colours.index(triple) != colour, 'DuplicateColour')
+    refuse(
+        triple in document.colours and document.colours.index(triple) != colour, 'DuplicateColour'
+    )
     refuse(colour == 0, 'Background')
     document.colours[colour] = triple
     return document
@@ -122,8 +144,15 @@ def unpin(document, row, col):
 
 
 LINES = {'insert': insert_row, 'delete': delete_row, 'swap': swap_rows}
-CELLS = {('paint',): paint, ('fill',): fill, ('recolour',): recolour, ('colour', 'add'): add_colour,
-         ('colour', 'set'): set_colour, ('pin',): pin, ('unpin',): unpin}
+CELLS = {
+    ('paint',): paint,
+    ('fill',): fill,
+    ('recolour',): recolour,
+    ('colour', 'add'): add_colour,
+    ('colour', 'set'): set_colour,
+    ('pin',): pin,
+    ('unpin',): unpin,
+}
 
 
 class History:
@@ -138,7 +167,7 @@ class History:
     def edit(self, key, values):
         """Makes an edit, or raises its refusal."""
         after = edited(self.document, key, values)
-        self.past = (self.past + [self.document])[-self.depth:]
+        self.past = (self.past + [self.document])[-self.depth :]
         self.future = []
         self.document = after
 

@@ -123,7 +123,11 @@ def narrow_by_places(clue, masks):
     """The same as `narrow_by_listing`, by a table over cells and blocks."""
     length, blocks = len(masks), len(clue)
     ends = runs_allowed(masks, {colour for _, colour in clue})
-    ways = {(i, b): moves_from(clue, masks, ends, i, b) for i in range(length + 1) for b in range(blocks + 1)}
+    ways = {
+        (i, b): moves_from(clue, masks, ends, i, b)
+        for i in range(length + 1)
+        for b in range(blocks + 1)
+    }
     done = {(length, blocks)}
     for i in range(length - 1, -1, -1):
         for b in range(blocks + 1):
@@ -180,7 +184,11 @@ def close(clues, facts):
             return None
         put_line(facts, line, after)
         axis = 'c' if line[0] == 'r' else 'r'
-        waiting += [(axis, i) for i in range(len(after)) if after[i] != before[i] and (axis, i) not in waiting]
+        waiting += [
+            (axis, i)
+            for i in range(len(after))
+            if after[i] != before[i] and (axis, i) not in waiting
+        ]
     return facts
 
 
@@ -191,7 +199,10 @@ def settled(rows, givens=()):
 
 def map_rows(facts):
     """The rows of a map as they are printed."""
-    return [''.join(letter(m.bit_length() - 1) if m & (m - 1) == 0 else '?' for m in row) for row in facts]
+    return [
+        ''.join(letter(m.bit_length() - 1) if m & (m - 1) == 0 else '?' for m in row)
+        for row in facts
+    ]
 
 
 def forces(clue, masks, at, colour):

@@ -21,7 +21,7 @@ def lines_of(text):
 def keyword_of(line):
     """The keyword of a line and the bytes behind it, or None."""
     found = re.match(rb'[ \t]*([a-z][^ \t]*)', line)
-    return (found.group(1), line[found.end():]) if found else None
+    return (found.group(1), line[found.end() :]) if found else None
 
 
 class Parts:
@@ -100,7 +100,10 @@ def read_non(text):
         raise Fault('MissingSize')
     width, height = parts.sizes[b'width'], parts.sizes[b'height']
     clues = {}
-    for axis, keyword, count, length in (('r', b'rows', height, width), ('c', b'columns', width, height)):
+    for axis, keyword, count, length in (
+        ('r', b'rows', height, width),
+        ('c', b'columns', width, height),
+    ):
         for at, line in enumerate(clue_lines(parts.sections.get(keyword), count)):
             clues[axis, at] = clue_in(line, length)
     if parts.goal is None:

@@ -41,7 +41,7 @@ def value_of(token):
     if not re.fullmatch(rb'[0-9]+', token):
         return None
     digits = token.lstrip(b'0')
-    return 10 ** 9 if len(digits) > 9 else int(digits or b'0')
+    return 10**9 if len(digits) > 9 else int(digits or b'0')
 
 
 class Tokens:
@@ -49,7 +49,9 @@ class Tokens:
 
     def __init__(self, text):
         self.text = text
-        self.pieces = (piece for piece in PIECE.finditer(text, 2) if not piece.group().startswith(b'#'))
+        self.pieces = (
+            piece for piece in PIECE.finditer(text, 2) if not piece.group().startswith(b'#')
+        )
 
     def number(self):
         """The next token's value and place; the first fault where there is none, or no number."""

@@ -64,7 +64,10 @@ def check_run(run, text, cert, background):
         for row, col in read_cert(cert)[1]:
             base[row - 1][col - 1] = 1 << rows[row - 1][col - 1]
         found = pictures_with(clues_of(rows), height, width, base, 2)
-        agree(found == [rows], f'accepted, but the pictures are {[picture_rows(one) for one in found]}')
+        agree(
+            found == [rows],
+            f'accepted, but the pictures are {[picture_rows(one) for one in found]}',
+        )
     return 'accepted'
 
 
@@ -91,7 +94,7 @@ def found_picture(run, height, width, clues):
         return None
     try:
         end = run.wrote.index(b'goal ')
-        goal = read_non(run.wrote[:run.wrote.index(b'\n', end) + 1])[3]
+        goal = read_non(run.wrote[: run.wrote.index(b'\n', end) + 1])[3]
     except (Fault, ValueError):
         raise Disagreement('no .non was written') from None
     agree(goal is not None and clues_of(goal) == clues, 'the picture found does not have the clues')
@@ -102,7 +105,13 @@ class Puzzle:
     """A puzzle to be assessed: its text, or None where there is no such file, its format, and what lies beside it."""
 
     def __init__(self, text, background=None, is_non=False, published=None, cert=None):
-        self.text, self.background, self.is_non, self.published, self.cert = text, background, is_non, published, cert
+        self.text, self.background, self.is_non, self.published, self.cert = (
+            text,
+            background,
+            is_non,
+            published,
+            cert,
+        )
 
     def document(self):
         """The picture, or the goal."""
@@ -123,17 +132,24 @@ class Puzzle:
             document = self.document()
             kind, unit = 'givens', 'line'
             if self.published is not None:
-                places = plain_forms.read_published(plain_forms.Puzzle(document.rows), self.published)
+                places = plain_forms.read_published(
+                    plain_forms.Puzzle(document.rows), self.published
+                )
                 document.givens = {(row - 1, col - 1) for row, col in places}
             session = Session(document, 1, most_splits(document))
             session.allowance = allowance
             kind = 'certificate'
-            assessment = Assessment(document, self.background is not None, session.verdict_on, self.cert)
+            assessment = Assessment(
+                document, self.background is not None, session.verdict_on, self.cert
+            )
         except (Fault, plain_forms.Fault) as fault:
-            output.must_lines(f'refused {kind} {fault.name}' + ('' if fault.place is None else f' at {unit} {fault.place}'))
+            output.must_lines(
+                f'refused {kind} {fault.name}'
+                + ('' if fault.place is None else f' at {unit} {fault.place}')
+            )
             return f'{kind} {fault.name}'
         must_assess(output, assessment, session.must_be_other)
-        return output.text[:output.at].split()[-1].decode()
+        return output.text[: output.at].split()[-1].decode()
 
 
 def assess_run(run, puzzles, allowance):
@@ -150,7 +166,11 @@ def assess_run(run, puzzles, allowance):
         run.must(0 if set(ends) == {'fit'} else 1, run.wrote, b'')
     if len(puzzles) > 1:
         return 'several'
-    return f'{ends[0]}, with a certificate' if puzzles[0].cert is not None and ends[0] in ('fit', 'unfit') else ends[0]
+    return (
+        f'{ends[0]}, with a certificate'
+        if puzzles[0].cert is not None and ends[0] in ('fit', 'unfit')
+        else ends[0]
+    )
 
 
 def most_splits(document):

@@ -8,8 +8,13 @@ class TooMuch(Exception):
 
 def is_other(rows, givens, other):
     """Whether a picture is another one: of the size, with the clues, the givens' colours, and not the picture itself."""
-    return (len(other) == len(rows) and all(len(row) == len(rows[0]) for row in other) and other != rows
-            and clues_of(other) == clues_of(rows) and all(other[r][c] == rows[r][c] for r, c in givens))
+    return (
+        len(other) == len(rows)
+        and all(len(row) == len(rows[0]) for row in other)
+        and other != rows
+        and clues_of(other) == clues_of(rows)
+        and all(other[r][c] == rows[r][c] for r, c in givens)
+    )
 
 
 def pictures_with(clues, height, width, base, limit=None):
@@ -24,12 +29,16 @@ def pictures_with(clues, height, width, base, limit=None):
             return
         at = len(rows)
         for filling in fillings(clues['r', at], width):
-            if all(base[at][i] >> colour & 1 for i, colour in enumerate(filling)) and can_go_on(rows + [filling]):
+            if all(base[at][i] >> colour & 1 for i, colour in enumerate(filling)) and can_go_on(
+                rows + [filling]
+            ):
                 go_on(rows + [filling])
 
     def can_go_on(rows):
         for col in range(width):
-            masks = [1 << row[col] for row in rows] + [base[i][col] for i in range(len(rows), height)]
+            masks = [1 << row[col] for row in rows] + [
+                base[i][col] for i in range(len(rows), height)
+            ]
             if narrow(clues['c', col], tuple(masks)) is None:
                 return False
         return True
@@ -40,7 +49,9 @@ def pictures_with(clues, height, width, base, limit=None):
 
 def open_cells(facts):
     """The cells with more than one colour left, in row order."""
-    return [(r, c) for r, row in enumerate(facts) for c, mask in enumerate(row) if mask & (mask - 1)]
+    return [
+        (r, c) for r, row in enumerate(facts) for c, mask in enumerate(row) if mask & (mask - 1)
+    ]
 
 
 def parts_of(facts):
@@ -65,8 +76,10 @@ def through(part):
 def search_part(clues, facts, rows, part, most):
     """Another filling of a part or None, and the splits that its search counts. None is found behind `most` splits."""
     cells = set(part)
-    alone = [[facts[r][c] if (r, c) in cells else 1 << rows[r][c] for c in range(len(rows[0]))]
-             for r in range(len(rows))]
+    alone = [
+        [facts[r][c] if (r, c) in cells else 1 << rows[r][c] for c in range(len(rows[0]))]
+        for r in range(len(rows))
+    ]
     waiting = [alone]
     splits = 0
     while waiting:
@@ -100,16 +113,22 @@ class Scene:
         self.rows = [list(row) for row in rows]
         self.givens = set(givens)
         self.clues = clues_of(rows)
-        base = [[1 << rows[r][c] if (r, c) in self.givens else 0xFFFF for c in range(len(rows[0]))]
-                for r in range(len(rows))]
+        base = [
+            [1 << rows[r][c] if (r, c) in self.givens else 0xFFFF for c in range(len(rows[0]))]
+            for r in range(len(rows))
+        ]
         self.facts = close(self.clues, base)
         self.parts = parts_of(self.facts)
 
     def same_line(self, other, line):
         """Whether a line has the same clue, colours left and cells in another scene."""
-        return (line in self.clues and line in other.clues and self.clues[line] == other.clues[line]
-                and line_of(self.facts, line) == line_of(other.facts, line)
-                and line_of(self.rows, line) == line_of(other.rows, line))
+        return (
+            line in self.clues
+            and line in other.clues
+            and self.clues[line] == other.clues[line]
+            and line_of(self.facts, line) == line_of(other.facts, line)
+            and line_of(self.rows, line) == line_of(other.rows, line)
+        )
 
     def lines(self):
         """The names of all lines."""

@@ -35,13 +35,13 @@ class Output:
         """The next line without its end."""
         end = self.text.find(b'\n', self.at)
         agree(end >= 0, 'a line without a line feed, or none')
-        line = self.text[self.at:end]
+        line = self.text[self.at : end]
         self.at = end + 1
         return line
 
     def must(self, text):
         """The next bytes must be these."""
-        said = self.text[self.at:self.at + len(text)]
+        said = self.text[self.at : self.at + len(text)]
         agree(said == text, f'wanted {text[:300]!r}, got {said[:300]!r}')
         self.at += len(text)
 
@@ -66,7 +66,8 @@ def clue_lines(clues):
 
 def must_assess(output, assessment, must_be_other):
     """The next lines must be an assessment. Which other picture it shows is free, and which certificate its grade is taken from: so
-    splits and depth may be any that one can have, and none need be found. Answers whether none was."""
+    splits and depth may be any that one can have, and none need be found. Answers whether none was.
+    """
     found = read_assessment(output.text, output.at)
     agree(found, f'no assessment: {output.text[output.at:output.at + 300]!r}')
     other = found['other'].decode().splitlines()
@@ -75,7 +76,10 @@ def must_assess(output, assessment, must_be_other):
     guesses = found['splits'] and (int(found['splits']), int(found['depth']))
     output.must_lines(*assessment.lines(other, guesses))
     is_guessed = assessment.word == 'unique' and assessment.open > 0
-    agree(not is_guessed or not guesses or 1 <= guesses[1] <= guesses[0], f'splits and depth of no certificate: {guesses}')
+    agree(
+        not is_guessed or not guesses or 1 <= guesses[1] <= guesses[0],
+        f'splits and depth of no certificate: {guesses}',
+    )
     return is_guessed and not guesses
 
 
@@ -182,7 +186,10 @@ class Session:
         """The report."""
         document, scene = self.document, self.scene()
         rows = document.rows
-        lines = [f'size {len(rows)} {len(rows[0])}', f'colours {len(document.colours)} maxval {document.maxval}']
+        lines = [
+            f'size {len(rows)} {len(rows[0])}',
+            f'colours {len(document.colours)} maxval {document.maxval}',
+        ]
         lines += ['%s %d %d %d' % (letter(k), *triple) for k, triple in enumerate(document.colours)]
         lines += ['picture'] + picture_rows(rows)
         lines += [f'given {row + 1} {col + 1}' for row, col in sorted(document.givens)]
@@ -212,7 +219,10 @@ class Session:
         scene = self.scene()
         line = (reason.group(1).decode(), int(reason.group(2)) - 1)
         crossing = col if line[0] == 'r' else row
-        agree(line == (('r', row) if line[0] == 'r' else ('c', col)), 'the line is not through the cell')
+        agree(
+            line == (('r', row) if line[0] == 'r' else ('c', col)),
+            'the line is not through the cell',
+        )
         known = line_of(scene.facts, line)
         masks = [0xFFFF] * len(known)
         before = 0
@@ -220,7 +230,9 @@ class Session:
             place, letters = premise.split(b'=')
             at = int(place) - 1
             mask = sum(1 << '.abcdefghijklmno'.index(chr(byte)) for byte in letters)
-            agree(mask_letters(mask) == letters.decode(), f'letters not by rising number: {letters!r}')
+            agree(
+                mask_letters(mask) == letters.decode(), f'letters not by rising number: {letters!r}'
+            )
             agree(before <= at < len(known), f'a place out of order or outside: {at + 1}')
             agree(known[at] & ~mask == 0, f'a premise that is not known at {at + 1}')
             masks[at] = mask
@@ -229,8 +241,11 @@ class Session:
         agree(forces(scene.clues[line], masks, crossing, colour), 'the premises do not force it')
         for at in range(len(masks)):
             if masks[at] != 0xFFFF or b' %d=' % (at + 1) in (reason.group(3) or b''):
-                fewer = masks[:at] + [0xFFFF] + masks[at + 1:]
-                agree(not forces(scene.clues[line], fewer, crossing, colour), f'the premise at {at + 1} can be left out')
+                fewer = masks[:at] + [0xFFFF] + masks[at + 1 :]
+                agree(
+                    not forces(scene.clues[line], fewer, crossing, colour),
+                    f'the premise at {at + 1} can be left out',
+                )
 
     def say_certify(self, output):
         """A certificate, checked by the reference, or that there is another picture. What it finds of the parts is kept."""
@@ -258,7 +273,9 @@ class Session:
 
     def say_assess(self, output, named=False):
         """The assessment. What was found before does not count."""
-        self.ungraded += must_assess(output, Assessment(self.document, named, self.verdict_on), self.must_be_other)
+        self.ungraded += must_assess(
+            output, Assessment(self.document, named, self.verdict_on), self.must_be_other
+        )
 
     def verdict_on(self, givens):
         """The verdict on the picture with other givens."""

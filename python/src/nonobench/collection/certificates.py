@@ -30,7 +30,9 @@ def told(desk: Desk, puzzle: Puzzle, beside: list[bytes]) -> tuple[Row, Optional
     """What a row says of the certificates that lie beside a puzzle, of several of the worst; and of the puzzle by one that is accepted."""
     pairs = [_told(desk, puzzle, held) for held in beside]
     by = next((said for _, said in pairs if said), None)
-    return {"certificate": min((row for row, _ in pairs), key=lambda row: row["accepted"])} if beside else {}, by
+    return {
+        "certificate": min((row for row, _ in pairs), key=lambda row: row["accepted"])
+    } if beside else {}, by
 
 
 def _told(desk: Desk, puzzle: Puzzle, held: bytes) -> tuple[Row, Optional[Assessment]]:
@@ -48,7 +50,13 @@ def _told(desk: Desk, puzzle: Puzzle, held: bytes) -> tuple[Row, Optional[Assess
 
 
 def holds(
-    desk: Desk, puzzle: Puzzle, row: Row, held: Optional[bytes], beside: list[bytes], published: Optional[str], allowance: Optional[int]
+    desk: Desk,
+    puzzle: Puzzle,
+    row: Row,
+    held: Optional[bytes],
+    beside: list[bytes],
+    published: Optional[str],
+    allowance: Optional[int],
 ) -> bool:
     """Whether all that a row says of a puzzle with one solution is true. Then its picture is written again if it differs."""
     puzzle = desk.painted(puzzle)
@@ -74,7 +82,11 @@ def numbered_name(name: str, number: int) -> str:
 
 def written(to: Optional[str], published: Optional[str], number: int) -> list[str]:
     """Where the certificate and the picture of a puzzle are, those that are wanted."""
-    return [f"{numbered_name(name, number)}.{ending}" for name, ending in ((to, "cert"), (published, "ppm")) if name is not None]
+    return [
+        f"{numbered_name(name, number)}.{ending}"
+        for name, ending in ((to, "cert"), (published, "ppm"))
+        if name is not None
+    ]
 
 
 def write(name: str, text: str) -> str:
@@ -85,13 +97,21 @@ def write(name: str, text: str) -> str:
 def publish(puzzle: Puzzle, name: str) -> str:
     """Writes givens and background, and then the picture, which without them would be another puzzle. Answers a note as `write` does."""
     background = b"" if puzzle.background is None else puzzle.word() + b"\n"
-    picture = re.sub(rb"#[^\r\n]*", b"", puzzle.text)  # comments of others are no part of it, and may say what was not judged
+    picture = re.sub(
+        rb"#[^\r\n]*", b"", puzzle.text
+    )  # comments of others are no part of it, and may say what was not judged
     parts = {"givens": puzzle.published, "background": background, "ppm": picture}
     if all(_is_there(f"{name}.{ending}", data) for ending, data in parts.items()):
         return ""
     for ending in reversed(parts):
         remove(f"{name}.{ending}")
-    return next(filter(None, (_put("picture", f"{name}.{ending}", data) for ending, data in parts.items() if data)), "")
+    return next(
+        filter(
+            None,
+            (_put("picture", f"{name}.{ending}", data) for ending, data in parts.items() if data),
+        ),
+        "",
+    )
 
 
 def _is_there(path: str, data: bytes) -> bool:
@@ -145,7 +165,9 @@ NEW = new_name()  # of what this process writes; who may end it sets it
 
 def _write(name: str, data: bytes, folder: int) -> None:
     """Puts a file in a folder, also in the place of another one, or leaves none."""
-    with open(NEW, "xb", buffering=0, opener=functools.partial(os.open, mode=0o666, dir_fd=folder)) as file:
+    with open(
+        NEW, "xb", buffering=0, opener=functools.partial(os.open, mode=0o666, dir_fd=folder)
+    ) as file:
         try:
             write_all(file.fileno(), data)
             os.replace(NEW, name, src_dir_fd=folder, dst_dir_fd=folder)

@@ -49,7 +49,9 @@ class Cluster:
 
     def start(self) -> None:
         """Finds the scheduler."""
-        for one in [socket.socket() for _ in range(16)]:  # if so few cannot be opened, Dask breaks halfway, and prints a traceback
+        for one in [
+            socket.socket() for _ in range(16)
+        ]:  # if so few cannot be opened, Dask breaks halfway, and prints a traceback
             one.close()
         try:
             import distributed
@@ -61,15 +63,28 @@ class Cluster:
         except Exception as error:  # whatever the way there fails by
             raise Failure(f"no scheduler answers at {self._address}: {error}") from error
 
-    def answers(self, tasks: Iterator[Task], is_full: Callable[[], bool] = bool) -> Iterator[Optional[Answer]]:
+    def answers(
+        self, tasks: Iterator[Task], is_full: Callable[[], bool] = bool
+    ) -> Iterator[Optional[Answer]]:
         """What is answered to tasks, pack after pack; nothing, from time to time."""
         packs = _packs(tasks, self._settings)
-        flying: deque[tuple[Any, list[Answer]]] = deque()  # what is being judged, with the answers of files that are not
+        flying: deque[
+            tuple[Any, list[Answer]]
+        ] = deque()  # what is being judged, with the answers of files that are not
         while True:
-            room = 4 + 2 * sum(self._client.nthreads().values()) - len(flying)  # some packs for each thread of the workers that are there now
+            room = (
+                4 + 2 * sum(self._client.nthreads().values()) - len(flying)
+            )  # some packs for each thread of the workers that are there now
             for pack, told in itertools.islice(packs, max(0, room)):
-                words = version(), tuple(self._settings), self._seconds, zlib.compress(marshal.dumps([tuple(task) for task in pack]), 1)
-                flying.append((self._client.submit(judge_pack, *words, retries=RETRIES, pure=False), told))
+                words = (
+                    version(),
+                    tuple(self._settings),
+                    self._seconds,
+                    zlib.compress(marshal.dumps([tuple(task) for task in pack]), 1),
+                )
+                flying.append(
+                    (self._client.submit(judge_pack, *words, retries=RETRIES, pure=False), told)
+                )
             if not flying:
                 return
             found = self._result(*flying[0])
@@ -81,7 +96,11 @@ class Cluster:
     def close(self) -> None:
         """Lets the scheduler go; what it was still to judge is forgotten."""
         if self._client is not None:
-            logging.getLogger("asyncio").disabled = True  # Dask ends its loop beside a wait of its own, of which this would tell
+            logging.getLogger(
+                "asyncio"
+            ).disabled = (
+                True  # Dask ends its loop beside a wait of its own, of which this would tell
+            )
             self._client.close(timeout=2)
 
     def _result(self, future: Any, told: list[Answer]) -> Optional[list[Answer]]:
@@ -90,7 +109,9 @@ class Cluster:
             found = [Answer(*answer) for answer in future.result(timeout=TICK)]
         except Broken as error:
             raise Failure(f"a worker of the scheduler: {error}") from error
-        except Exception as error:  # whatever a worker, or the way to it, failed by: that may be a TimeoutError, too
+        except (
+            Exception
+        ) as error:  # whatever a worker, or the way to it, failed by: that may be a TimeoutError, too
             if isinstance(error, (asyncio.TimeoutError, TimeoutError)) and future.status != "error":
                 return None
             raise Failure(f"the scheduler's workers: {type(error).__name__}: {error}") from error
@@ -106,7 +127,9 @@ def _packs(tasks: Iterator[Task], settings: Settings) -> Iterator[tuple[list[Tas
         try:
             files = files_of(task, settings)
         except Unreadable as error:
-            answers.append(Answer(task.number, True, "error", unread(task.name, error, settings.has_times)))
+            answers.append(
+                Answer(task.number, True, "error", unread(task.name, error, settings.has_times))
+            )
         else:
             pack.append(task._replace(**files._asdict()))
             size += len(files.file) + len(files.givens or b"") + len(files.background or b"")

@@ -25,7 +25,9 @@ class Earlier:
     def __init__(self, name: str, lines: BinaryIO) -> None:
         self._name = name
         self._lines = lines
-        self._places: dict[int, tuple[int, int]] = {}  # by hashes of names: where a row begins, and the number of its line
+        self._places: dict[
+            int, tuple[int, int]
+        ] = {}  # by hashes of names: where a row begins, and the number of its line
         for number, (place, line) in enumerate(lines_of(lines), 1):
             front = _FRONT.match(line, 0, MOST_FRONT)
             if front is None or not line.endswith(b"}\n"):
@@ -39,7 +41,9 @@ class Earlier:
     def rows(self, name: str) -> list[tuple[int, Row]]:
         """The rows of a file, each with its place; none where some are missing. They are asked for once."""
         found: list[tuple[int, Row]] = []
-        keys = itertools.takewhile(self._places.__contains__, (hash((name, number)) for number in itertools.count(1)))
+        keys = itertools.takewhile(
+            self._places.__contains__, (hash((name, number)) for number in itertools.count(1))
+        )
         for place, number in [self._places.pop(key) for key in keys]:
             self._lines.seek(place)
             row = read_row(self._name, number, self._lines.readline())
@@ -77,25 +81,40 @@ def read_row(name: str, number: int, line: bytes) -> Row:
         raise no_row(name, number, str(error)) from None
 
 
-def kept_digest(rows: list[tuple[int, Row]], made: str, limit: str, to: Optional[str], published: Optional[str]) -> str:
+def kept_digest(
+    rows: list[tuple[int, Row]], made: str, limit: str, to: Optional[str], published: Optional[str]
+) -> str:
     """The digest of a file whose rows can be kept if it is the same today; empty where they are to be made again."""
-    if len({row.get("content") for _, row in rows}) > 1:  # some are newer: a run was stopped within the file
+    if (
+        len({row.get("content") for _, row in rows}) > 1
+    ):  # some are newer: a run was stopped within the file
         return ""
     for _, row in rows:
-        if row.get("made") != made or "note" in row or "missing" in row or row.get("error", "").startswith("out of memory"):
+        if (
+            row.get("made") != made
+            or "note" in row
+            or "missing" in row
+            or row.get("error", "").startswith("out of memory")
+        ):
             return ""
         if (row["verdict"] == "undecided" or "unknown" in row) and row.get("limit") != limit:
             return ""
-        if row["verdict"] == "unique" and not all(map(os.path.exists, written(to, published, row.get("puzzle", 1)))):
+        if row["verdict"] == "unique" and not all(
+            map(os.path.exists, written(to, published, row.get("puzzle", 1)))
+        ):
             return ""
     return rows[0][1].get("content", "") if rows else ""
 
 
-def to_check(rows: list[tuple[int, Row]], to: Optional[str], published: Optional[str]) -> tuple[tuple[int, str, File], ...]:
+def to_check(
+    rows: list[tuple[int, Row]], to: Optional[str], published: Optional[str]
+) -> tuple[tuple[int, str, File], ...]:
     """The rows of a file as a task has them, each with where its certificate is; none where neither these nor pictures are written."""
     kept: list[tuple[int, str, File]] = []
     for number, (_, row) in enumerate(rows if (to, published) != (None, None) else (), 1):
         is_unique = row["verdict"] == "unique"
-        certificate: File = f"{numbered_name(to, number)}.cert" if is_unique and to is not None else b""
+        certificate: File = (
+            f"{numbered_name(to, number)}.cert" if is_unique and to is not None else b""
+        )
         kept.append((number, text_of(row if is_unique else {}), certificate))
     return tuple(kept)

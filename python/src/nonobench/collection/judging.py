@@ -33,13 +33,23 @@ class Desk:
         if puzzle.inks != (WHITE, BLACK):
             size, _, *cells = text.splitlines()[1:]
             columns, rows = map(int, size.split(" "))
-            text = picture_of(columns, rows, (puzzle.inks[cell == "0 0 0"] for cell in cells)).decode("ascii")
+            text = picture_of(
+                columns, rows, (puzzle.inks[cell == "0 0 0"] for cell in cells)
+            ).decode("ascii")
         return replace(puzzle, text=text.encode("ascii"), is_non=False)
 
-    def assess(self, puzzle: Puzzle, certificate: Optional[bytes], allowance: Optional[int] = None) -> Assessment:
+    def assess(
+        self, puzzle: Puzzle, certificate: Optional[bytes], allowance: Optional[int] = None
+    ) -> Assessment:
         """What is said of a puzzle: by a certificate, or by a search under an allowance."""
         most = NO_ALLOWANCE if allowance is None else allowance
-        return assessment_of(self._text(self._desk.assess(puzzle.text, False, puzzle.word(), puzzle.published, certificate, most)))
+        return assessment_of(
+            self._text(
+                self._desk.assess(
+                    puzzle.text, False, puzzle.word(), puzzle.published, certificate, most
+                )
+            )
+        )
 
     def certify(self, puzzle: Puzzle, said: Assessment) -> str:
         """A certificate of a `painted` puzzle with one solution. Raises MemoryError.
@@ -51,7 +61,9 @@ class Desk:
             if found.startswith("nono"):
                 return found
         front = b"".join(b"pin %d %d\n" % place for place in puzzle.givens)
-        *oks, tree = self._say(puzzle.text, puzzle.word(), front + b"certify\n").split("\n", len(puzzle.givens))
+        *oks, tree = self._say(puzzle.text, puzzle.word(), front + b"certify\n").split(
+            "\n", len(puzzle.givens)
+        )
         if "refused: Memory" in oks or tree.startswith("refused: "):
             raise MemoryError
         return tree

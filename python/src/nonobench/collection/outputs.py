@@ -39,7 +39,9 @@ def telling(name: str) -> Iterator[None]:
     except OSError as error:
         if name == "-" and isinstance(error, BrokenPipeError):
             raise Failure(CLOSED) from error
-        raise Failure(f"{'standard output' if name == '-' else name}: {error.strerror or error}") from error
+        raise Failure(
+            f"{'standard output' if name == '-' else name}: {error.strerror or error}"
+        ) from error
 
 
 def locked(name: str, file: Union[BinaryIO, int], is_shared: bool = False) -> None:
@@ -70,16 +72,22 @@ def is_regular(file: BinaryIO) -> bool:
 
 def hold_streams() -> None:
     """Puts a file that takes nothing in the place of each standard stream that is closed: what is opened next would have its number."""
-    signal.signal(signal.SIGCHLD, signal.SIG_DFL)  # inherited, too: where it is ignored, no process would have a status
+    signal.signal(
+        signal.SIGCHLD, signal.SIG_DFL
+    )  # inherited, too: where it is ignored, no process would have a status
     for number in range(3):
         try:
             os.fstat(number)
         except OSError:
             os.set_inheritable(os.open(os.devnull, os.O_RDONLY), True)
-    sys.stdout, sys.stderr = (stream or open(os.devnull, "w", encoding="utf-8") for stream in (sys.stdout, sys.stderr))
+    sys.stdout, sys.stderr = (
+        stream or open(os.devnull, "w", encoding="utf-8") for stream in (sys.stdout, sys.stderr)
+    )
     if sys.stderr is sys.__stderr__:
         messages = io.BufferedWriter(_Messages(2, "w", closefd=False))
-        sys.stderr = io.TextIOWrapper(messages, sys.stderr.encoding, "namereplace", line_buffering=True)
+        sys.stderr = io.TextIOWrapper(
+            messages, sys.stderr.encoding, "namereplace", line_buffering=True
+        )
 
 
 def _wait(file: BinaryIO, until: float = math.inf) -> None:
@@ -109,12 +117,18 @@ class Output:
     that by now. One that is to take another's place is a new file.
     """
 
-    until = math.inf  # the moment up to which somebody is waited for who reads a pipe: a run that is stopped ends
+    until = (
+        math.inf
+    )  # the moment up to which somebody is waited for who reads a pipe: a run that is stopped ends
 
-    def __init__(self, name: str, keeps: bool = False, folder: Optional[int] = None, is_new: bool = False) -> None:
+    def __init__(
+        self, name: str, keeps: bool = False, folder: Optional[int] = None, is_new: bool = False
+    ) -> None:
         self.name = name
         self._folder = folder
-        self.place = os.path.realpath(name) if folder is None and os.path.islink(name) else name  # also behind a link of the operator's own
+        self.place = (
+            os.path.realpath(name) if folder is None and os.path.islink(name) else name
+        )  # also behind a link of the operator's own
         self._way = name if folder is None else os.path.basename(name)
         self._held = bytearray()
         self._since = 0.0
@@ -126,7 +140,9 @@ class Output:
             if is_new:
                 self._way = os.path.join(os.path.dirname(self._way), new_name())
             self._open(os.O_EXCL if is_new else os.O_NOFOLLOW if folder is not None else 0)
-            if folder is not None and os.fstat(self.file.fileno()).st_nlink > 1:  # strangers may name a file of the operator's
+            if (
+                folder is not None and os.fstat(self.file.fileno()).st_nlink > 1
+            ):  # strangers may name a file of the operator's
                 raise Failure(f"{name}: it has other names, too")
             self._is_old = not keeps and is_regular(self.file)
 
@@ -138,11 +154,15 @@ class Output:
         handle = os.open(way, access | os.O_CLOEXEC | flags, 0o666, dir_fd=self._folder)
         os.set_blocking(handle, True)
         self.file = io.FileIO(handle, "wb" if is_pipe else "r+b")
-        if (is_pipe or is_regular(self.file)) and os.path.samestat(os.fstat(handle), os.fstat(1)):  # where the summary goes, too
+        if (is_pipe or is_regular(self.file)) and os.path.samestat(
+            os.fstat(handle), os.fstat(1)
+        ):  # where the summary goes, too
             raise Failure(f"{self.name}: this is standard output, which is called -")
         if is_regular(self.file):  # a device such as /dev/null may have several runs
             locked(self.name, self.file)
-            if not os.path.samestat(os.stat(way, dir_fd=self._folder), os.fstat(self.file.fileno())):  # put in its place since
+            if not os.path.samestat(
+                os.stat(way, dir_fd=self._folder), os.fstat(self.file.fileno())
+            ):  # put in its place since
                 raise Failure(f"{self.name}: another run uses it")
         elif flags:
             raise Failure(f"{self.name}: this is not a file")
@@ -225,13 +245,17 @@ class Lines(Sink):
         super().__init__(Output(name, is_resumed, folder))
         self._end = 0
         self._order = array("Q")
-        self.has_places = name != "-" and is_regular(self._output.file)  # where rows can be put in order in the end
+        self.has_places = name != "-" and is_regular(
+            self._output.file
+        )  # where rows can be put in order in the end
         if is_resumed:
             if not self.has_places:
                 raise Failure(f"{name}: its rows cannot be read again")
             self._end = _cut_torn_line(self._output.file, name)
         # The file itself, to be read, whatever has its name by now.
-        self.file = open(f"/proc/self/fd/{self._output.file.fileno()}" if self.has_places else os.devnull, "rb")
+        self.file = open(
+            f"/proc/self/fd/{self._output.file.fileno()}" if self.has_places else os.devnull, "rb"
+        )
 
     def put(self, text: str, row: Row) -> None:
         """Puts a new row."""
@@ -263,7 +287,9 @@ class Lines(Sink):
         self._output.close(is_whole)
 
     def _put_in_order(self) -> None:
-        if all(before < after for before, after in zip(self._order, self._order[1:])) and len(self._order) == _count(self._output.file):
+        if all(before < after for before, after in zip(self._order, self._order[1:])) and len(
+            self._order
+        ) == _count(self._output.file):
             return
         with self._output.replaced() as new:
             for place in self._order:
@@ -287,7 +313,9 @@ def _cut_torn_line(file: BinaryIO, name: str) -> int:
     place = begin + at + 1
     file.seek(place)
     if not ROW.startswith(file.read(len(ROW))):
-        raise Failure(f"{name}: its last line is not a row of an audit")  # a file of something else stays whole
+        raise Failure(
+            f"{name}: its last line is not a row of an audit"
+        )  # a file of something else stays whole
     if place < end:
         with telling(name):
             file.truncate(place)

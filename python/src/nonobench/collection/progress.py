@@ -54,7 +54,11 @@ class Progress:
 
     def aside(self) -> Any:
         """Takes the bar away while lines are printed."""
-        return self._bar.external_write_mode() if self._bar is not None and sys.stdout.isatty() else contextlib.nullcontext()
+        return (
+            self._bar.external_write_mode()
+            if self._bar is not None and sys.stdout.isatty()
+            else contextlib.nullcontext()
+        )
 
     def close(self) -> None:
         """Shows the end."""
@@ -67,6 +71,9 @@ def _bar() -> Any:
     try:
         from tqdm import tqdm
     except ImportError:
-        print("nonobench-audit: tqdm, which draws a bar, is not installed (pip install tqdm)", file=sys.stderr)
+        print(
+            "nonobench-audit: tqdm, which draws a bar, is not installed (pip install tqdm)",
+            file=sys.stderr,
+        )
         return None
     return tqdm(unit=" files", dynamic_ncols=True, smoothing=0.1, mininterval=0.2)

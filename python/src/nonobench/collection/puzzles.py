@@ -17,7 +17,9 @@ WHITE: Triple = (255, 255, 255)
 BLACK: Triple = (0, 0, 0)
 
 # What does not belong in a line of text: control characters, and marks that turn the direction of writing.
-_UNSEEN = re.compile("[\x00-\x1f\x7f-\x9f\u061c\u200b-\u200f\u2028-\u202e\u2060-\u2069\ufeff\ud800-\udfff]")
+_UNSEEN = re.compile(
+    "[\x00-\x1f\x7f-\x9f\u061c\u200b-\u200f\u2028-\u202e\u2060-\u2069\ufeff\ud800-\udfff]"
+)
 MOST_TITLE = 200
 
 
@@ -48,7 +50,10 @@ class Puzzle:
     background: Optional[Triple] = None  # where one is named, else white
     published: bytes = b""  # the file of the cells that are given: lines `given R C`
     title: str = ""
-    inks: tuple[Triple, Triple] = (WHITE, BLACK)  # the colours of a .non text: its background, and that of its clues
+    inks: tuple[Triple, Triple] = (
+        WHITE,
+        BLACK,
+    )  # the colours of a .non text: its background, and that of its clues
 
     @functools.cached_property
     def givens(self) -> tuple[tuple[int, int], ...]:

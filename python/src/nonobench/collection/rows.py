@@ -14,8 +14,24 @@ VERDICTS = ("unique", "ambiguous", "undecided", "error")
 GRADES = ("easy", "medium", "hard", "very hard", "expert", "unknown")
 FIGURES = ("rounds", "evaluations", "wait", "splits", "depth")
 COLUMNS = (
-    "file", "puzzle", "title", "rows", "columns", "colours", "background", "verdict", "open", "grade",
-    *(f"grade_{name}" for name in FIGURES), "fit", "flaws", "lines", "certificate", "givens", "error", "seconds",
+    "file",
+    "puzzle",
+    "title",
+    "rows",
+    "columns",
+    "colours",
+    "background",
+    "verdict",
+    "open",
+    "grade",
+    *(f"grade_{name}" for name in FIGURES),
+    "fit",
+    "flaws",
+    "lines",
+    "certificate",
+    "givens",
+    "error",
+    "seconds",
 )
 LETTERS = ".abcdefghijklmno"
 
@@ -28,10 +44,22 @@ def judged_row(puzzle: Puzzle, said: Assessment) -> Row:
     """What a row says of a puzzle that was judged, and is a P3 text."""
     palette, picture = _shown(puzzle, said.rows * said.columns)
     row: Row = {
-        "title": puzzle.title, "rows": said.rows, "columns": said.columns, "colours": len(palette), "verdict": said.verdict.ruling.value,
-        "open": said.open, **graded(said), "fit": said.is_fit, "flaws": list(map(str, said.flaws)), "unknown": list(said.unknown or ()),
-        "givens": [list(place) for place in puzzle.givens], "background": palette[0], "palette": palette,
-        "picture": "/".join(picture[at : at + said.columns] for at in range(0, len(picture), said.columns)),
+        "title": puzzle.title,
+        "rows": said.rows,
+        "columns": said.columns,
+        "colours": len(palette),
+        "verdict": said.verdict.ruling.value,
+        "open": said.open,
+        **graded(said),
+        "fit": said.is_fit,
+        "flaws": list(map(str, said.flaws)),
+        "unknown": list(said.unknown or ()),
+        "givens": [list(place) for place in puzzle.givens],
+        "background": palette[0],
+        "palette": palette,
+        "picture": "/".join(
+            picture[at : at + said.columns] for at in range(0, len(picture), said.columns)
+        ),
         "other": "/".join(said.verdict.other or ()),
     }
     return {name: value for name, value in row.items() if value not in ("", [])}
@@ -56,7 +84,10 @@ def graded(said: Assessment) -> Row:
     if said.grade is None:
         return {}
     word, *figures = said.grade
-    return {"grade": word.replace("-", " "), "figures": {name: figure for name, figure in zip(FIGURES, figures) if figure is not None}}
+    return {
+        "grade": word.replace("-", " "),
+        "figures": {name: figure for name, figure in zip(FIGURES, figures) if figure is not None},
+    }
 
 
 def _triple(words: Sequence[bytes]) -> Triple:
@@ -105,15 +136,26 @@ def certificate_words(row: Row) -> str:
 
 # What is counted of a collection, by the kinds of flaws.
 FLAWS = {
-    "blank": "blank pictures", "background": "backgrounds that no cell has", "given": "givens that are not needed",
-    "spare": "givens that their certificate does not name", "alike": "colours that look alike",
+    "blank": "blank pictures",
+    "background": "backgrounds that no cell has",
+    "given": "givens that are not needed",
+    "spare": "givens that their certificate does not name",
+    "alike": "colours that look alike",
 }
 
 
 def flaws_of(row: Row, allowed: Iterable[str]) -> list[str]:
     """Why a puzzle cannot be published as it is, apart from its verdict, for somebody who allows flaws of some kinds."""
-    flaws = [] if row.get("certificate", {"accepted": True})["accepted"] else ["certificates not accepted"]
-    return flaws + [*dict.fromkeys(FLAWS[flaw.split(" ")[0]] for flaw in refused_flaws(row.get("flaws", ()), allowed))]
+    flaws = (
+        []
+        if row.get("certificate", {"accepted": True})["accepted"]
+        else ["certificates not accepted"]
+    )
+    return flaws + [
+        *dict.fromkeys(
+            FLAWS[flaw.split(" ")[0]] for flaw in refused_flaws(row.get("flaws", ()), allowed)
+        )
+    ]
 
 
 HEAD = f"{'VERDICT':9}  {'SIZE':>7}  {'COLOURS':>7}  {'GROUND':7}  {'GIVENS':>6}  {'OPEN':>5}  {'GRADE':9}  {'SECONDS':>7}  NAME"
@@ -135,13 +177,20 @@ def table_line(row: Row) -> str:
 def words_of(row: Row) -> list[str]:
     """All that is said of a row in words."""
     words = certificate_words(row)
-    told = [row.get("error", ""), row.get("note", ""), f"certificate {words}" if words else "", *flaw_words(row)]
+    told = [
+        row.get("error", ""),
+        row.get("note", ""),
+        f"certificate {words}" if words else "",
+        *flaw_words(row),
+    ]
     return [printable(word) for word in told if word]
 
 
 # What is said of one, but for colours that look alike.
 FLAW_WORDS = {
-    "blank": "the picture is blank", "background": "no cell has its background", "given": "given {} {} is not needed",
+    "blank": "the picture is blank",
+    "background": "no cell has its background",
+    "given": "given {} {} is not needed",
     "spare": "given {} {} is not named by its certificate",
 }
 
@@ -150,7 +199,11 @@ def flaw_words(row: Row) -> list[str]:
     """The flaws of a puzzle, and what is not known."""
     flaws = [flaw.split(" ") for flaw in row.get("flaws", ())]
     words = [FLAW_WORDS[kind].format(*place) for kind, *place in flaws if kind != "alike"]
-    pairs = [" and ".join(f"#{row['palette'][LETTERS.index(letter)]}" for letter in pair) for kind, *pair in flaws if kind == "alike"]
+    pairs = [
+        " and ".join(f"#{row['palette'][LETTERS.index(letter)]}" for letter in pair)
+        for kind, *pair in flaws
+        if kind == "alike"
+    ]
     if pairs:
         words.append(f"colours look alike: {', '.join(pairs)}")
     if "unknown" in row:
@@ -160,8 +213,17 @@ def flaw_words(row: Row) -> list[str]:
 
 def printable(text: str) -> str:
     """A text in one line, that a terminal can show. What bytes of a name stand as, no letter does."""
-    escaped = (f"\\u{ord(sign):04x}" if "\x7f" < sign < "\u0100" else sign.encode("unicode_escape").decode("ascii") for sign in text)
-    return text if text.isprintable() else "".join(sign if sign.isprintable() else word for sign, word in zip(text, escaped))
+    escaped = (
+        f"\\u{ord(sign):04x}"
+        if "\x7f" < sign < "\u0100"
+        else sign.encode("unicode_escape").decode("ascii")
+        for sign in text
+    )
+    return (
+        text
+        if text.isprintable()
+        else "".join(sign if sign.isprintable() else word for sign, word in zip(text, escaped))
+    )
 
 
 def csv_cells(row: Row) -> list[Any]:
@@ -175,8 +237,17 @@ def csv_cells(row: Row) -> list[Any]:
     cells["background"] = f"#{row['background']}" if "background" in row else ""
     cells["error"] = "; ".join(word for word in (row.get("error"), row.get("note")) if word)
     found = [cells.get(name, "") for name in COLUMNS]
-    return [";".join(map(_no_formula, printable(cell).split(";"))) if isinstance(cell, str) else cell for cell in found]
+    return [
+        ";".join(map(_no_formula, printable(cell).split(";"))) if isinstance(cell, str) else cell
+        for cell in found
+    ]
 
 
 def _no_formula(text: str) -> str:
-    return "'" + text if unicodedata.normalize("NFKD", text.replace('"', " ").lstrip()).startswith(("=", "+", "-", "@")) else text
+    return (
+        "'" + text
+        if unicodedata.normalize("NFKD", text.replace('"', " ").lstrip()).startswith(
+            ("=", "+", "-", "@")
+        )
+        else text
+    )

@@ -17,8 +17,33 @@ from .._library import version
 from . import certificates
 from .arguments import Options, options_of
 from .earlier import Earlier, kept_digest, read_row, to_check
-from .finding import CHANGED, NONE, UNTOLD, Names, Places, changed, find, folders_of, is_among, is_in_share, order_of, real_place
-from .outputs import CLOSED, Failure, Lines, Output, Sheet, Table, hold_streams, kept_folder, lines_of, locked, telling
+from .finding import (
+    CHANGED,
+    NONE,
+    UNTOLD,
+    Names,
+    Places,
+    changed,
+    find,
+    folders_of,
+    is_among,
+    is_in_share,
+    order_of,
+    real_place,
+)
+from .outputs import (
+    CLOSED,
+    Failure,
+    Lines,
+    Output,
+    Sheet,
+    Table,
+    hold_streams,
+    kept_folder,
+    lines_of,
+    locked,
+    telling,
+)
 from .progress import Progress
 from .rows import Row, printable, row_of, text_of, unwritten
 from .serving import FULL, Settings, Task
@@ -40,7 +65,9 @@ def _follows(before: Row, row: Row) -> bool:
     if row["file"] != before.get("file"):
         return not before.get("more") and row.get("puzzle", 1) == 1
     contents = {one["content"] for one in (before, row) if one.get("content")}
-    return bool(before.get("more")) and row.get("puzzle") == before["puzzle"] + 1 and len(contents) < 2
+    return (
+        bool(before.get("more")) and row.get("puzzle") == before["puzzle"] + 1 and len(contents) < 2
+    )
 
 
 class Stopped(BaseException):
@@ -76,12 +103,18 @@ def main(words: Optional[list[str]] = None) -> int:
     Stopped.is_held, Stopped.came, Output.until = False, 0, math.inf
     try:
         for number in (signal.SIGINT, signal.SIGTERM):
-            if signal.getsignal(number) != signal.SIG_IGN:  # as Ctrl-C is for what runs behind a shell
+            if (
+                signal.getsignal(number) != signal.SIG_IGN
+            ):  # as Ctrl-C is for what runs behind a shell
                 signal.signal(number, _stop)
         try:
             options = options_of(sys.argv[1:] if words is None else words)
             return Run(options).merge() if options.is_merge else Run(options).audit()
-        except (Failure, Broken, OSError) as error:  # of the last ones none is known but of a machine that lacks something
+        except (
+            Failure,
+            Broken,
+            OSError,
+        ) as error:  # of the last ones none is known but of a machine that lacks something
             print(f"nonobench-audit: {printable(str(error))}", file=sys.stderr)
         except Exception:  # 1 would say that puzzles are not fit
             traceback.print_exc()
@@ -104,7 +137,13 @@ def settings_of(options: Options) -> Settings:
     limit = ", ".join(bounds if options.seconds is None else [*bounds, f"{options.seconds:g} s"])
     made = f"{version()} {options.ground}{'' if options.allowance is None else ' no-times'}"
     return Settings(
-        made, limit, options.memory, options.allowance, options.ground, options.allowance is None, options.scheduler is not None,
+        made,
+        limit,
+        options.memory,
+        options.allowance,
+        options.ground,
+        options.allowance is None,
+        options.scheduler is not None,
         options.is_untrusted,
     )
 
@@ -122,7 +161,9 @@ class Run:
         self._earlier: Optional[Earlier] = None
         self._kept: dict[int, Kept] = {}
         self._waiting: dict[int, list[Answer]] = {}
-        self._fresh: dict[int, int] = {}  # of files whose rows came since the last look at them, the first of these
+        self._fresh: dict[
+            int, int
+        ] = {}  # of files whose rows came since the last look at them, the first of these
         self._complete: set[int] = set()
         self._size = 0
         self._next = 0
@@ -131,7 +172,9 @@ class Run:
         self._is_told = False  # whether there are givens or a background of one
         self._unread: list[str] = []  # those of an older name that are not read
         self._lost: list[str] = []  # those of puzzles that their files do not have
-        self._old: list[str] = []  # certificates and pictures of earlier runs, where this one made none
+        self._old: list[
+            str
+        ] = []  # certificates and pictures of earlier runs, where this one made none
         self._left = 0  # rows of an earlier run that are left out
         self._unlisted: set[str] = set()  # folders that cannot be listed
         self._is_elsewhere = False  # whether other shares have files
@@ -152,7 +195,11 @@ class Run:
             source.start()
             self._open()
             self._count_files()
-            status = self._guarded(lambda: self._take_all(source.answers(self._tasks(settings), lambda: self._size > MOST_WAITING)))
+            status = self._guarded(
+                lambda: self._take_all(
+                    source.answers(self._tasks(settings), lambda: self._size > MOST_WAITING)
+                )
+            )
         return status
 
     def merge(self) -> int:
@@ -161,7 +208,9 @@ class Run:
         files = []
         for at, path in enumerate(self._options.paths):
             if os.path.exists(path) and not os.path.isfile(path):
-                raise Failure(f"{path}: this is not a file")  # it is read twice, and nothing waits for a pipe
+                raise Failure(
+                    f"{path}: this is not a file"
+                )  # it is read twice, and nothing waits for a pipe
             with telling(path), open(path, "rb") as looked_at:
                 locked(path, looked_at, True)  # no run writes to it now
                 files.append(open(path, "rb"))
@@ -182,22 +231,36 @@ class Run:
                 raise Failure(f"{files[at].name}: it was written while it was read")
             row = row_of(line)
             if not _follows(before, row):
-                raise Failure(f"{printable((before if before.get('more') else row)['file'])}: {MIXED}")
+                raise Failure(
+                    f"{printable((before if before.get('more') else row)['file'])}: {MIXED}"
+                )
             # One whose process was ended does not tell its content.
-            before = {**row, "content": before.get("content")} if before.get("more") and "content" not in row else row
+            before = (
+                {**row, "content": before.get("content")}
+                if before.get("more") and "content" not in row
+                else row
+            )
             if is_told:
                 with whole():
-                    self._deliver(text_of(row))  # written anew: other programs may have put blanks in
+                    self._deliver(
+                        text_of(row)
+                    )  # written anew: other programs may have put blanks in
         if before.get("more"):
             raise Failure(f"{printable(before['file'])}: {MIXED}")
 
     def _open(self) -> None:
         """Opens what is written, so that what cannot be is told before anything is done."""
         options = self._options
-        folders: dict[str, int] = {}  # of outputs among files of strangers, opened through no link: they may have become one by now
+        folders: dict[
+            str, int
+        ] = (
+            {}
+        )  # of outputs among files of strangers, opened through no link: they may have become one by now
         for name, place in options.among.items():
             with telling(name):
-                folders[name] = self._stack.enter_context(certificates.opened(os.path.dirname(place), False))
+                folders[name] = self._stack.enter_context(
+                    certificates.opened(os.path.dirname(place), False)
+                )
         if options.jsonl is not None:
             self._lines = Lines(options.jsonl, options.is_resumed, folders.get(options.jsonl))
             self._sinks.append(self._lines)
@@ -208,7 +271,9 @@ class Run:
         if options.html is not None:
             from .report import Report
 
-            self._sinks.append(Report(options.html, options.title, self._tally, folders.get(options.html)))
+            self._sinks.append(
+                Report(options.html, options.title, self._tally, folders.get(options.html))
+            )
         if not self._sinks and not options.is_quiet:
             self._sinks.append(Table(self._progress.aside))
 
@@ -217,16 +282,27 @@ class Run:
         options = self._options
 
         def count() -> None:
-            self._progress.expect(sum(is_in_share(found.name, options.shard) for found in find(options.paths, is_anew=False)))
+            self._progress.expect(
+                sum(
+                    is_in_share(found.name, options.shard)
+                    for found in find(options.paths, is_anew=False)
+                )
+            )
 
         if not options.is_quiet:
-            with contextlib.suppress(RuntimeError):  # where no thread can be started, it is not told
+            with contextlib.suppress(
+                RuntimeError
+            ):  # where no thread can be started, it is not told
                 threading.Thread(target=count, daemon=True).start()
 
     def _tasks(self, settings: Settings) -> Iterator[Task]:
         options = self._options
         number = -1
-        is_written = options.certify is not None and options.certificates is not None and is_among(options.certify, folders_of([options.certificates]))
+        is_written = (
+            options.certify is not None
+            and options.certificates is not None
+            and is_among(options.certify, folders_of([options.certificates]))
+        )
         places = Places(options.certificates, options.givens, options.is_untrusted, is_written)
         read = folders_of([*options.paths, *([] if options.givens is None else [options.givens])])
         for found in find(options.paths, places):
@@ -239,13 +315,30 @@ class Run:
                 continue
             number += 1
             self._unread += found.unread
-            to, published = (name and self._way(os.path.join(name, found.stem), shut) for name, shut in ((options.certify, NONE), (options.publish, read)))
+            to, published = (
+                name and self._way(os.path.join(name, found.stem), shut)
+                for name, shut in ((options.certify, NONE), (options.publish, read))
+            )
             rows = [] if self._earlier is None else self._earlier.rows(found.name)
             before = kept_digest(rows, settings.made, settings.limit, to, published)
             rows = rows if before else []
-            self._kept[number] = Kept(tuple((place, row["verdict"]) for place, row in rows), to, published, found.beside)
+            self._kept[number] = Kept(
+                tuple((place, row["verdict"]) for place, row in rows), to, published, found.beside
+            )
             beside = found.beside, found.givens, found.background
-            yield Task(number, found.name, found.path, *beside, to, before, 1, FULL, published, to_check(rows, to, published), why=found.why)
+            yield Task(
+                number,
+                found.name,
+                found.path,
+                *beside,
+                to,
+                before,
+                1,
+                FULL,
+                published,
+                to_check(rows, to, published),
+                why=found.why,
+            )
 
     def _way(self, way: str, shut: Names) -> str:
         """Where something is written: links of the operator's own are followed, but into no folder that is shut."""
@@ -268,16 +361,28 @@ class Run:
         except Stopped as stopped:
             Stopped.came = stopped.args[0]
         with whole():
-            return self._end(128 + Stopped.came if Stopped.came and not is_whole else 0, is_whole, failures)
+            return self._end(
+                128 + Stopped.came if Stopped.came and not is_whole else 0, is_whole, failures
+            )
 
     def _end(self, status: int, is_whole: bool, failures: list[Exception]) -> int:
         options = self._options
         if status:
             for number in sorted(self._complete):
                 self._release(number)
-        ours = (options.certificates, "certificate", self._beside == len(self._lost)), (options.givens, UNTOLD, not self._is_told)
-        wrong = [(way, what) for way, what, is_unused in ours if way is not None and is_unused and is_whole]
-        failures += [Failure(f"{way}: no {what} in it is of one of these puzzles") for way, what in wrong]
+        ours = (options.certificates, "certificate", self._beside == len(self._lost)), (
+            options.givens,
+            UNTOLD,
+            not self._is_told,
+        )
+        wrong = [
+            (way, what)
+            for way, what, is_unused in ours
+            if way is not None and is_unused and is_whole
+        ]
+        failures += [
+            Failure(f"{way}: no {what} in it is of one of these puzzles") for way, what in wrong
+        ]
         is_none = is_whole and not self._tally.total and not self._is_elsewhere
         if is_none:
             failures.append(Failure(f"no puzzles in {', '.join(options.paths)}"))
@@ -286,7 +391,9 @@ class Run:
             unlisted, self._left = self._earlier.left(self._unlisted)
             for place in unlisted:  # behind all others
                 self._lines.keep(place)
-            failures += [Failure(f"{options.jsonl}: {len(unlisted)} {UNLISTED}")] if unlisted else []
+            failures += (
+                [Failure(f"{options.jsonl}: {len(unlisted)} {UNLISTED}")] if unlisted else []
+            )
         failures += self._close(is_whole and not is_none)
         self._progress.close()
         for words in dict.fromkeys(map(str, failures)):
@@ -309,7 +416,9 @@ class Run:
             with whole():
                 if answer is None:
                     self._tick()
-                elif answer.number in self._kept and answer.number not in self._complete:  # nothing that nobody asked for
+                elif (
+                    answer.number in self._kept and answer.number not in self._complete
+                ):  # nothing that nobody asked for
                     self._take(answer)
         with whole():
             for number in sorted(self._complete):
@@ -322,7 +431,11 @@ class Run:
         self._fresh.setdefault(answer.number, len(waiting))
         waiting.append(answer)
         self._size += self._size_of(answer)
-        told = [verdict for _, verdict in self._kept[answer.number].rows] if answer.verdict == "same" else [answer.verdict]
+        told = (
+            [verdict for _, verdict in self._kept[answer.number].rows]
+            if answer.verdict == "same"
+            else [answer.verdict]
+        )
         self._progress.count(told, answer.is_last)
         if answer.is_last:
             self._complete.add(answer.number)
@@ -337,7 +450,9 @@ class Run:
         if self._fresh and time.monotonic() - self._since > BEHIND:
             lines = self._places()
             for number, first in self._fresh.items():
-                self._waiting[number][first:] = [self._placed(answer, lines) for answer in self._waiting[number][first:]]
+                self._waiting[number][first:] = [
+                    self._placed(answer, lines) for answer in self._waiting[number][first:]
+                ]
             self._fresh.clear()
         for sink in self._sinks:
             sink.flush()
@@ -348,7 +463,9 @@ class Run:
     def _places(self) -> Lines:
         """Where rows wait for those before them: in the file of rows, or if there is none that is read again, in one for this run."""
         if self._lines is None or not self._lines.has_places:
-            self._lines = Lines(self._stack.enter_context(tempfile.NamedTemporaryFile()).name, False)
+            self._lines = Lines(
+                self._stack.enter_context(tempfile.NamedTemporaryFile()).name, False
+            )
         return self._lines
 
     def _placed(self, answer: Answer, lines: Lines) -> Answer:
@@ -368,7 +485,11 @@ class Run:
         """The row of an answer, whose certificate is written where it came with it."""
         if answer.place is not None and self._lines is not None:
             return self._lines.line(answer.place).decode("ascii")[:-1]
-        return answer.text if not answer.certificate else certificates.delivered(answer, self._kept[answer.number].to)
+        return (
+            answer.text
+            if not answer.certificate
+            else certificates.delivered(answer, self._kept[answer.number].to)
+        )
 
     def _release(self, number: int) -> None:
         """Delivers the rows of a file."""
@@ -398,7 +519,12 @@ class Run:
         if "lines" not in row or unwritten("certificate") in row.get("note", ""):
             published = None if row["verdict"] == "unique" else kept.published
             old = filter(os.path.lexists, certificates.written(kept.to, published, number))
-            self._old += [path for path in old if path not in (os.path.realpath(beside) for of, beside in kept.beside if of == number)]
+            self._old += [
+                path
+                for path in old
+                if path
+                not in (os.path.realpath(beside) for of, beside in kept.beside if of == number)
+            ]
         for sink in self._sinks:
             if sink is self._lines and place is not None:
                 self._lines.keep(place)
@@ -407,7 +533,10 @@ class Run:
 
     def _summary(self, is_whole: bool, is_stopped: bool) -> None:
         options, summary = self._options, self._tally.summary()
-        unread = {"not read, since a .cert is there": self._unread, "not read, since there is no such puzzle": self._lost}
+        unread = {
+            "not read, since a .cert is there": self._unread,
+            "not read, since there is no such puzzle": self._lost,
+        }
         self._tally.warn(options, is_stopped, {**unread, OLD: self._old}, self._left)
         if options.is_quiet or "-" in (options.jsonl, options.csv) or sys.__stdout__ is None:
             return

@@ -29,7 +29,9 @@ from .rows import Row, graded, judged_row, noted, row_of, text_of, unfinished
 MOMENT = 0.03  # seconds until an answer goes out
 LONG = 0.02  # seconds after which what is known goes out before a certificate is made
 FULL, GLANCE = 0, 1
-FEW_SPLITS = 100  # of a puzzle that took too long, to tell at least its size and what line logic leaves open
+FEW_SPLITS = (
+    100  # of a puzzle that took too long, to tell at least its size and what line logic leaves open
+)
 SPARE = 8 << 20  # bytes
 DIES_WITH_PARENT = 1  # of prctl: PR_SET_PDEATHSIG
 MOST_SENT = 64  # MiB of a file with what lies beside it that go to workers elsewhere, which hold them several times
@@ -66,7 +68,9 @@ class Task(NamedTuple):
     start: int  # the first puzzle that is wanted
     mode: int
     published: Optional[str] = None  # where its picture is written, without the ending
-    kept: tuple[tuple[int, str, File], ...] = ()  # rows to be checked again: number, text where it has one solution, certificate
+    kept: tuple[
+        tuple[int, str, File], ...
+    ] = ()  # rows to be checked again: number, text where it has one solution, certificate
     spent: float = 0.0  # the seconds of a try that took too long
     used: float = 0.0  # the seconds that the puzzles before took
     has_more: bool = False  # whether that try came to know of puzzles behind this one
@@ -88,7 +92,9 @@ def serve(memory: int) -> None:
         return
     settings = Settings(*first)
     if settings.coding != sys.getfilesystemencoding():  # a name would be that of another file
-        sys.exit(f"nonobench-audit: names of files are {sys.getfilesystemencoding()} in its process, and not {settings.coding}")
+        sys.exit(
+            f"nonobench-audit: names of files are {sys.getfilesystemencoding()} in its process, and not {settings.coding}"
+        )
     judging = Judging(settings, answers)
     certificates.NEW = settings.new
     answers.put(0, "ready", "")
@@ -130,7 +136,9 @@ class Answers:
         self._some = threading.Event()
         threading.Thread(target=self._run, daemon=True).start()
 
-    def put(self, number: int, kind: str, verdict: str, text: str = "", certificate: str = "") -> None:
+    def put(
+        self, number: int, kind: str, verdict: str, text: str = "", certificate: str = ""
+    ) -> None:
         """Puts an answer of a kind.
 
         `more` and `last` are rows of a file; `same` and `none` say that its rows are as they were, or that there are no more.
@@ -139,7 +147,9 @@ class Answers:
         with a text where more follow, and `on` that a piece of the file was read, or that a puzzle with others behind it was judged or
         checked again. `bye` says that the process ends and has begun no other task, `ready` that it begins.
         """
-        self._waiting.append(framed(number, *(word.encode("ascii") for word in (kind, verdict, text, certificate))))
+        self._waiting.append(
+            framed(number, *(word.encode("ascii") for word in (kind, verdict, text, certificate)))
+        )
         if not self._some.is_set():  # which takes no lock
             self._some.set()
 
@@ -166,7 +176,9 @@ class Judging:
         self._settings, self._answers = settings, answers
         self._ground = readers.ground_of(settings.ground)
         self._desk = Desk()
-        self._row: Row = {}  # what is known of the puzzle at hand: nothing before there is a verdict
+        self._row: Row = (
+            {}
+        )  # what is known of the puzzle at hand: nothing before there is a verdict
         self._back = ""  # its certificate, where that goes back
         self._front: Row = {}  # how its row begins, if its file is not read further
         self._is_in_pieces = False  # whether its file is read in pieces that are told
@@ -198,7 +210,9 @@ class Judging:
         try:
             files = files_of(task, self._settings)
         except Unreadable as error:
-            self._answers.put(task.number, "last", "error", unread(task.name, error, self._settings.has_times))
+            self._answers.put(
+                task.number, "last", "error", unread(task.name, error, self._settings.has_times)
+            )
             return
         sha256 = hashlib.sha256(files.file).hexdigest()
         content = _content(files, sha256)
@@ -211,7 +225,13 @@ class Judging:
                 place = place_of(number, has_more)
                 if place or task.before or self._is_in_pieces:
                     self._answers.put(task.number, "at", "", "more" if has_more else "")
-                about = About({"file": task.name, **place}, "more" if has_more else "last", content, sha256, begun)
+                about = About(
+                    {"file": task.name, **place},
+                    "more" if has_more else "last",
+                    content,
+                    sha256,
+                    begun,
+                )
                 self._judge(task, about, puzzle, files.of(number))
                 if task.mode == GLANCE:
                     return
@@ -228,20 +248,36 @@ class Judging:
         with contextlib.suppress(Unreadable, MemoryError):
             for number, has_more, puzzle in self._numbered(task, files):
                 row, held = kept.pop(number, (None, b""))
-                if row is None or (row and (isinstance(puzzle, Unreadable) or row.get("sha256") != sha256)):
+                if row is None or (
+                    row and (isinstance(puzzle, Unreadable) or row.get("sha256") != sha256)
+                ):
                     return False
-                if row and place_of(number, has_more) != {word: row[word] for word in ("puzzle", "more") if word in row}:
+                if row and place_of(number, has_more) != {
+                    word: row[word] for word in ("puzzle", "more") if word in row
+                }:
                     return False
                 published = task.published and certificates.numbered_name(task.published, number)
                 proof = None if task.to is None else held
-                if row and isinstance(puzzle, Puzzle) and not certificates.holds(
-                    self._desk, puzzle, row, proof, files.of(number), published, self._settings.allowance
+                if (
+                    row
+                    and isinstance(puzzle, Puzzle)
+                    and not certificates.holds(
+                        self._desk,
+                        puzzle,
+                        row,
+                        proof,
+                        files.of(number),
+                        published,
+                        self._settings.allowance,
+                    )
                 ):
                     return False
             return not kept
         return False
 
-    def _numbered(self, task: Task, files: Files) -> Iterator[tuple[int, bool, Union[Puzzle, Unreadable]]]:
+    def _numbered(
+        self, task: Task, files: Files
+    ) -> Iterator[tuple[int, bool, Union[Puzzle, Unreadable]]]:
         """Each puzzle with its number, and whether more follow: those have time of their own. What is wrong with the file is the last one.
         Where memory ends in reading one, those before it come first.
         """
@@ -279,7 +315,9 @@ class Judging:
         has_none = files.background is None or is_image(files.file)  # of its own
         yield from puzzles if has_none else readers.grounded(puzzles, ground)
 
-    def _judge(self, task: Task, about: About, puzzle: Union[Puzzle, Unreadable], beside: list[bytes]) -> None:
+    def _judge(
+        self, task: Task, about: About, puzzle: Union[Puzzle, Unreadable], beside: list[bytes]
+    ) -> None:
         """Puts the row of one puzzle. Where memory ends, it has what is known by then, and what is missing."""
         self._row, self._back = {}, ""
         try:
@@ -293,7 +331,9 @@ class Judging:
         except MemoryError:
             self._spare = b""
             why = self._too_much()
-            self._row = unfinished(self._row, why) if self._row else {"verdict": "error", "error": why}
+            self._row = (
+                unfinished(self._row, why) if self._row else {"verdict": "error", "error": why}
+            )
         self._put(task, about, about.kind, self._back)
         if not self._spare:
             self._leave(task)
@@ -314,10 +354,19 @@ class Judging:
 
     def _make(self, task: Task, about: About, puzzle: Puzzle, beside: list[bytes]) -> None:
         """Makes a P3 text's row, by a certificate beside it where one is accepted. With one solution, what has names is written."""
-        settings, number, is_glance = self._settings, about.front.get("puzzle", 1), task.mode == GLANCE
-        name, published = (None if place is None else certificates.numbered_name(place, number) for place in (task.to, task.published))
+        settings, number, is_glance = (
+            self._settings,
+            about.front.get("puzzle", 1),
+            task.mode == GLANCE,
+        )
+        name, published = (
+            None if place is None else certificates.numbered_name(place, number)
+            for place in (task.to, task.published)
+        )
         told, by = certificates.told(self._desk, puzzle, beside)
-        said = by or self._desk.assess(puzzle, None, FEW_SPLITS if is_glance else settings.allowance)
+        said = by or self._desk.assess(
+            puzzle, None, FEW_SPLITS if is_glance else settings.allowance
+        )
         self._row = {**judged_row(puzzle, said), **told}
         if self._row["verdict"] != "unique":
             return
@@ -337,7 +386,9 @@ class Judging:
                 self._back = certificates.packed(made)
             else:
                 self._row = noted(self._row, certificates.write(name, made))
-            if by is None and said.open:  # the grade is that of a certificate, and none lies beside: of this one
+            if (
+                by is None and said.open
+            ):  # the grade is that of a certificate, and none lies beside: of this one
                 self._tell(task, about)
                 self._row = {**self._row, **graded(self._desk.assess(puzzle, made.encode("ascii")))}
 
@@ -350,7 +401,10 @@ def unread(name: str, error: Unreadable, has_times: bool) -> str:
 
 def place_of(number: int, has_more: bool) -> Row:
     """What a row says of its puzzle's place in the file: nothing where it is the only one."""
-    return {**({"puzzle": number} if has_more or number > 1 else {}), **({"more": True} if has_more else {})}
+    return {
+        **({"puzzle": number} if has_more or number > 1 else {}),
+        **({"more": True} if has_more else {}),
+    }
 
 
 class Files(NamedTuple):
@@ -372,7 +426,9 @@ def files_of(task: Task, settings: Settings) -> Files:
     most = min(settings.memory, MOST_SENT) if settings.is_inline else settings.memory
     room = most << 20
 
-    def bytes_of(file: Optional[File], whose: str = "", is_ours: bool = not settings.is_untrusted) -> bytes:
+    def bytes_of(
+        file: Optional[File], whose: str = "", is_ours: bool = not settings.is_untrusted
+    ) -> bytes:
         nonlocal room
         if file is None or isinstance(file, bytes):
             return file or b""
@@ -394,16 +450,28 @@ def files_of(task: Task, settings: Settings) -> Files:
         raise Unreadable(task.why)
     beside = tuple((of, bytes_of(held, "its certificate: ")) for of, held in task.beside)
     givens, background = (
-        None if file is None else bytes_of(file, f"its {name}: ") for name, file in (("givens", task.givens), ("background", task.background))
+        None if file is None else bytes_of(file, f"its {name}: ")
+        for name, file in (("givens", task.givens), ("background", task.background))
     )
     file = bytes_of(task.file)
-    return Files(file, beside, givens, background, tuple((number, text, made(held)) for number, text, held in task.kept))
+    return Files(
+        file,
+        beside,
+        givens,
+        background,
+        tuple((number, text, made(held)) for number, text, held in task.kept),
+    )
 
 
 def _content(files: Files, sha256: str) -> str:
     """A digest of a file, whose own is passed, and of what lies beside it: also of which puzzle each certificate is for."""
     told = ("background", files.background), ("givens", files.givens)
-    parts = [("", sha256.encode("ascii")), *((name, data) for name, data in told if data is not None)]
+    parts = [
+        ("", sha256.encode("ascii")),
+        *((name, data) for name, data in told if data is not None),
+    ]
     parts += [(f"{of}", held) for of, held in files.beside]
     front = ",".join(f"{name} {len(held)}" for name, held in parts).encode("ascii")
-    return hashlib.blake2b(b":".join((front, *(held for _, held in parts))), digest_size=16).hexdigest()
+    return hashlib.blake2b(
+        b":".join((front, *(held for _, held in parts))), digest_size=16
+    ).hexdigest()

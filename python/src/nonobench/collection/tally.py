@@ -49,17 +49,26 @@ class Tally:
 
     def summary(self) -> str:
         """The lines that end a run."""
-        lines = [f"{self.total} {'puzzle' if self.total == 1 else 'puzzles'}{f': {counted(self.verdicts, VERDICTS)}' if self.total else ''}"]
+        lines = [
+            f"{self.total} {'puzzle' if self.total == 1 else 'puzzles'}{f': {counted(self.verdicts, VERDICTS)}' if self.total else ''}"
+        ]
         if self.grades:
             lines.append(f"grades: {counted(self.grades, GRADES)}")
         if self.flaws:
             lines.append(f"besides: {counted(self.flaws, sorted(self.flaws))}")
         return "\n".join(lines)
 
-    def warn(self, options: Options, is_stopped: bool, told: dict[str, list[str]], left: int = 0) -> None:
+    def warn(
+        self, options: Options, is_stopped: bool, told: dict[str, list[str]], left: int = 0
+    ) -> None:
         """Says on standard error what kept the run from judging all, what is told of files, and how many rows were left out."""
-        lines = [f"{count} not read, since {name} is not installed" for name, count in sorted(self._missing.items())]
-        lines += [f"{word}s not written: {count}" for word, count in sorted(self._unwritten.items())]
+        lines = [
+            f"{count} not read, since {name} is not installed"
+            for name, count in sorted(self._missing.items())
+        ]
+        lines += [
+            f"{word}s not written: {count}" for word, count in sorted(self._unwritten.items())
+        ]
         if self._bare and options.certify is not None:
             lines.append(f"unique, but no certificate made in time or memory: {self._bare}")
         if left:

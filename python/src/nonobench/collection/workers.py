@@ -50,20 +50,35 @@ class Hand(Child):
         self.tasks: deque[Task] = deque()
         self.is_ready = False
         self.is_left = False  # it begins no other task: what waits here is handed to others
-        self.since = self.begun = time.monotonic()  # the last sign of life; and when the file at hand was begun
+        self.since = (
+            self.begun
+        ) = time.monotonic()  # the last sign of life; and when the file at hand was begun
         self.quiet = 0.0  # seconds before this one that no puzzle was charged for
         self.cost = PACK_SECONDS  # seconds of a file, about
         self.is_leaving = False  # whether it has told that it ends
-        self.has_more: Optional[bool] = None  # whether others follow the puzzle of the first task's file; nothing before that is begun
-        self.is_reading = False  # pieces of that file come, and then the puzzle is told when it is begun
-        self.known: Optional[tuple[str, str]] = None  # the row of the puzzle whose certificate or grade is being made, and what goes with it
+        self.has_more: Optional[
+            bool
+        ] = None  # whether others follow the puzzle of the first task's file; nothing before that is begun
+        self.is_reading = (
+            False  # pieces of that file come, and then the puzzle is told when it is begun
+        )
+        self.known: Optional[
+            tuple[str, str]
+        ] = None  # the row of the puzzle whose certificate or grade is being made, and what goes with it
         self.new = new_name()
-        self.send(0, marshal.dumps(tuple(settings._replace(new=self.new, coding=sys.getfilesystemencoding()))))
+        self.send(
+            0,
+            marshal.dumps(
+                tuple(settings._replace(new=self.new, coding=sys.getfilesystemencoding()))
+            ),
+        )
 
     def status(self) -> int:
         """Ends the process, and answers its status. What it was writing goes."""
         status = super().status()
-        for way in {os.path.dirname(way) for task in self.tasks for way in (task.to, task.published) if way}:
+        for way in {
+            os.path.dirname(way) for task in self.tasks for way in (task.to, task.published) if way
+        }:
             remove(os.path.join(way, self.new))
         return status
 
@@ -86,7 +101,9 @@ class Pool:
         """Starts the processes, so that they begin while tasks are found."""
         self._hands += [Hand(self._settings) for _ in range(self._jobs - len(self._hands))]
 
-    def answers(self, tasks: Iterator[Task], is_full: Callable[[], bool] = bool) -> Iterator[Optional[Answer]]:
+    def answers(
+        self, tasks: Iterator[Task], is_full: Callable[[], bool] = bool
+    ) -> Iterator[Optional[Answer]]:
         """What is answered to tasks, those of a file in order; nothing, from time to time. While it is full none is begun but
         the first of those that are not answered.
         """
@@ -115,7 +132,13 @@ class Pool:
         for hand in self._hands:
             size = 1 if self._again else max(1, min(MOST_PACKED, int(PACK_SECONDS / hand.cost)))
             is_alone = any((task.number, task.start) in self._died for task in hand.tasks)
-            if hand.is_left or hand.is_sending or is_alone or len(hand.tasks) > size // 2 or any(map(_is_set, hand.tasks)):
+            if (
+                hand.is_left
+                or hand.is_sending
+                or is_alone
+                or len(hand.tasks) > size // 2
+                or any(map(_is_set, hand.tasks))
+            ):
                 continue
             pack = self._pack(size)
             if pack:
@@ -149,7 +172,10 @@ class Pool:
 
     def _read(self, hand: Hand) -> Iterator[Answer]:
         try:
-            answers = [(number, [part.decode("ascii") for part in parts]) for number, parts in hand.answers()]
+            answers = [
+                (number, [part.decode("ascii") for part in parts])
+                for number, parts in hand.answers()
+            ]
         except (EOFError, MemoryError):
             yield from self._end(hand, "")
             return
@@ -165,7 +191,9 @@ class Pool:
         if any(parts[0] != "known" for _, parts in answers):
             hand.since = now
 
-    def _hear(self, hand: Hand, number: int, kind: str, verdict: str, text: str, certificate: str) -> Iterator[Answer]:
+    def _hear(
+        self, hand: Hand, number: int, kind: str, verdict: str, text: str, certificate: str
+    ) -> Iterator[Answer]:
         if kind == "ready":
             hand.is_ready, hand.begun, self._failures = True, time.monotonic(), 0
             return
@@ -173,7 +201,9 @@ class Pool:
             return
         task = hand.tasks[0]
         if kind in ("at", "on"):
-            hand.tasks[0] = task._replace(used=task.used + hand.quiet, before="" if kind == "at" else task.before)
+            hand.tasks[0] = task._replace(
+                used=task.used + hand.quiet, before="" if kind == "at" else task.before
+            )
             hand.is_reading, hand.quiet = kind == "on", 0.0
             if kind == "at":
                 hand.has_more = text != ""
@@ -183,7 +213,9 @@ class Pool:
             hand.is_leaving = True
         else:
             verdict = kind if kind in ("same", "none") else verdict
-            yield from self._take(hand, task, Answer(number, kind != "more", verdict, text, certificate))
+            yield from self._take(
+                hand, task, Answer(number, kind != "more", verdict, text, certificate)
+            )
 
     def _take(self, hand: Hand, task: Task, answer: Answer) -> Iterator[Answer]:
         """Takes the answer to the first task of a process."""
@@ -193,7 +225,11 @@ class Pool:
         if answer.is_last or task.mode == GLANCE:
             hand.tasks.popleft()
             if not answer.is_last:
-                self._again.append(task._replace(start=task.start + 1, mode=FULL, spent=0.0, used=used, has_more=False))
+                self._again.append(
+                    task._replace(
+                        start=task.start + 1, mode=FULL, spent=0.0, used=used, has_more=False
+                    )
+                )
         else:
             hand.tasks[0] = task._replace(start=json.loads(answer.text)["puzzle"] + 1, used=used)
 
@@ -205,12 +241,18 @@ class Pool:
             if not hand.is_ready:
                 if quiet > STARTING:
                     yield from self._end(hand, "")
-            elif hand.tasks and self._seconds is not None and (quiet > self._bound(hand.tasks[0]) or self._is_over(hand.tasks[0])):
+            elif (
+                hand.tasks
+                and self._seconds is not None
+                and (quiet > self._bound(hand.tasks[0]) or self._is_over(hand.tasks[0]))
+            ):
                 yield from self._end(hand, f"no answer within {self._seconds:g} seconds")
             elif len(hand.tasks) > 1 and quiet > STUCK and not (hand.is_left or hand.is_sending):
                 hand.is_left = True
                 hand.leave()
-            elif len(hand.tasks) > 1 and hand.is_left and quiet > STUCK + TICK:  # it began no other before it was told
+            elif (
+                len(hand.tasks) > 1 and hand.is_left and quiet > STUCK + TICK
+            ):  # it began no other before it was told
                 while len(hand.tasks) > 1:
                     self._again.append(hand.tasks.pop())
 
@@ -224,7 +266,9 @@ class Pool:
         self._hands.remove(hand)
         self._hung = [one for one in (*self._hung, hand) if one.is_there()]
         if len(self._hung) > max(MOST_HUNG, self._jobs):
-            raise Broken(f"processes that cannot be ended: {len(self._hung)}; perhaps a file system does not answer")
+            raise Broken(
+                f"processes that cannot be ended: {len(self._hung)}; perhaps a file system does not answer"
+            )
         if not hand.is_ready:
             self._failures += 1
             if self._failures > 2:
@@ -245,7 +289,11 @@ class Pool:
         elif is_to_blame:
             task = tasks.popleft()
             task = task._replace(used=task.used + time.monotonic() - hand.since)
-            why = late or (f"its process ended by signal {-status}" if status < 0 else f"its process ended with status {status}")
+            why = late or (
+                f"its process ended by signal {-status}"
+                if status < 0
+                else f"its process ended with status {status}"
+            )
             yield from self._blame(hand, task, why, bool(late))
         self._again += tasks
 
@@ -255,14 +303,27 @@ class Pool:
 
     def _blame(self, hand: Hand, task: Task, why: str, is_late: bool) -> Iterator[Answer]:
         """What becomes of a puzzle whose process was ended, or ended: it is told, or tried once more."""
-        is_silent = task.start == 1 and hand.has_more is None and not hand.is_reading and _is_set(task)  # it may have been slow to begin
+        is_silent = (
+            task.start == 1 and hand.has_more is None and not hand.is_reading and _is_set(task)
+        )  # it may have been slow to begin
         is_tried = is_late and not is_silent or (task.number, task.start) in self._died
-        is_unread = is_silent or hand.has_more is None and (task.start > 1 or hand.is_reading)  # the puzzle was not reached
+        is_unread = (
+            is_silent or hand.has_more is None and (task.start > 1 or hand.is_reading)
+        )  # the puzzle was not reached
         if task.before:  # kept rows were compared, and no puzzle was begun: all are judged anew
             self._again.append(task._replace(used=0.0, before="", kept=()))
         elif task.start > 1 and self._is_over(task) or is_tried and task.mode == FULL and is_unread:
-            over = f"the puzzles before it have taken more than {MOST_TIMES * (self._seconds or 0):g} seconds" if self._is_over(task) else why
-            row: Row = {"file": task.name, "puzzle": task.start, "verdict": "error", "error": f"{over}: neither it nor those behind it are judged"}
+            over = (
+                f"the puzzles before it have taken more than {MOST_TIMES * (self._seconds or 0):g} seconds"
+                if self._is_over(task)
+                else why
+            )
+            row: Row = {
+                "file": task.name,
+                "puzzle": task.start,
+                "verdict": "error",
+                "error": f"{over}: neither it nor those behind it are judged",
+            }
             yield from self._give_up(task, row, False)
         elif hand.known is not None:
             text, rest = hand.known
@@ -275,18 +336,26 @@ class Pool:
             self._died.add((task.number, task.start))
             self._again.append(task)
         elif is_late and task.mode == FULL:
-            self._again.append(task._replace(mode=GLANCE, spent=self._seconds or 0.0, has_more=bool(hand.has_more)))
+            self._again.append(
+                task._replace(mode=GLANCE, spent=self._seconds or 0.0, has_more=bool(hand.has_more))
+            )
         else:
             has_more = hand.has_more or task.has_more
             row = {"file": task.name, **place_of(task.start, has_more)}
-            row.update(verdict="undecided", error=why, limit=self._settings.limit) if is_late else row.update(verdict="error", error=why)
+            row.update(
+                verdict="undecided", error=why, limit=self._settings.limit
+            ) if is_late else row.update(verdict="error", error=why)
             yield from self._give_up(task, row, has_more)
 
-    def _give_up(self, task: Task, row: Row, has_more: bool, certificate: str = "") -> Iterator[Answer]:
+    def _give_up(
+        self, task: Task, row: Row, has_more: bool, certificate: str = ""
+    ) -> Iterator[Answer]:
         """Tells the row of a puzzle whose process is gone. The puzzles after it are still to come."""
         yield Answer(task.number, not has_more, row["verdict"], text_of(row), certificate)
         if has_more:
-            self._again.append(task._replace(start=row["puzzle"] + 1, mode=FULL, spent=0.0, has_more=False))
+            self._again.append(
+                task._replace(start=row["puzzle"] + 1, mode=FULL, spent=0.0, has_more=False)
+            )
 
 
 def _is_set(task: Task) -> bool:

@@ -24,7 +24,9 @@ _FOLDER = Path(__file__).resolve().parent
 class Report(Sink):
     """Gathers rows in a file, and makes the report of them in the end, with what was counted of them."""
 
-    def __init__(self, name: str, title: Optional[str], tally: Tally, folder: Optional[int] = None) -> None:
+    def __init__(
+        self, name: str, title: Optional[str], tally: Tally, folder: Optional[int] = None
+    ) -> None:
         self._environment = _environment()
         if os.path.exists(name) and not os.path.isfile(name):
             raise Failure(f"{name}: this is not a file")  # the report takes its place
@@ -33,15 +35,23 @@ class Report(Sink):
         self._tally = tally
         super().__init__(Output(name, True, folder))
         with telling(name):  # also that there is no room for another file beside it
-            self._rows = tempfile.TemporaryFile(dir=(os.path.dirname(self._output.place) or ".") if folder is None else f"/proc/self/fd/{folder}")
+            self._rows = tempfile.TemporaryFile(
+                dir=(os.path.dirname(self._output.place) or ".")
+                if folder is None
+                else f"/proc/self/fd/{folder}"
+            )
         self._sides: Counter[tuple[int, str]] = Counter()
 
     def put(self, text: str, row: Row) -> None:
         """Puts a row."""
         if "rows" in row:
             side = max(row["rows"], row["columns"])
-            self._sides[next((most for most in SIDES if side <= most), SIDES[-1]), row["verdict"]] += 1
-        line = text_of(record_of(row, len(flaws_of(row, self._tally.allowed)))).replace("<", "\\u003c")
+            self._sides[
+                next((most for most in SIDES if side <= most), SIDES[-1]), row["verdict"]
+            ] += 1
+        line = text_of(record_of(row, len(flaws_of(row, self._tally.allowed)))).replace(
+            "<", "\\u003c"
+        )
         with telling(self._name):
             self._rows.write(((",\n" if self._rows.tell() else "") + line).encode("ascii"))
 
@@ -57,10 +67,18 @@ class Report(Sink):
             self._output.close()
 
     def _make(self, new: Output, is_whole: bool) -> None:
-        parts = {name: (_FOLDER / name).read_text(encoding="utf-8") for name in ("report.css", "report.js")}
+        parts = {
+            name: (_FOLDER / name).read_text(encoding="utf-8")
+            for name in ("report.css", "report.js")
+        }
         mark = secrets.token_hex()
         page = self._environment.get_template("report.html").render(
-            title=self._title or "Puzzles", mark=mark, version=version(), is_whole=is_whole, style=parts["report.css"], script=parts["report.js"],
+            title=self._title or "Puzzles",
+            mark=mark,
+            version=version(),
+            is_whole=is_whole,
+            style=parts["report.css"],
+            script=parts["report.js"],
             **self._figures(),
         )
         front, _, back = page.partition(mark)
@@ -78,12 +96,20 @@ class Report(Sink):
         widest = max((sum(counts) for _, counts in sides), default=1) or 1
         return {
             "total": tally.total,
-            "verdicts": [(name, tally.verdicts[name], tally.verdicts[name] / (tally.total or 1)) for name in VERDICTS],
+            "verdicts": [
+                (name, tally.verdicts[name], tally.verdicts[name] / (tally.total or 1))
+                for name in VERDICTS
+            ],
             "grades": [(name, tally.grades[name], tally.grades[name] / tallest) for name in GRADES],
             "flaws": sorted(tally.flaws.items()),
             "graded": sum(tally.grades.values()),
             "sides": [
-                (least + 1, most, sum(counts), [(name, count, count / widest) for name, count in zip(VERDICTS, counts)])
+                (
+                    least + 1,
+                    most,
+                    sum(counts),
+                    [(name, count, count / widest) for name, count in zip(VERDICTS, counts)],
+                )
                 for least, (most, counts) in zip((0, *SIDES), sides)
                 if sum(counts)
             ],
@@ -92,14 +118,30 @@ class Report(Sink):
 
 def record_of(row: Row, flaws: int) -> list[Any]:
     """A row with so many flaws, as the page's script reads it. What is empty at its end is left out."""
-    verdict, grade = VERDICTS.index(row["verdict"]), GRADES.index(row["grade"]) if "grade" in row else -1
+    verdict, grade = (
+        VERDICTS.index(row["verdict"]),
+        GRADES.index(row["grade"]) if "grade" in row else -1,
+    )
     words = "; ".join(words_of(row))
     figures = row.get("figures", {})
     givens = [(place[0] - 1) * row["columns"] + place[1] - 1 for place in row.get("givens", ())]
     record: list[Any] = [
-        printable(name_of(row)), row.get("title", ""), row.get("rows", 0), row.get("columns", 0), verdict, grade, row.get("open", 0),
-        "".join(row.get("palette", ())), runs_of(row.get("picture", "")), runs_of(row.get("other", "")), row.get("lines", 0),
-        row.get("seconds", 0), words, givens, [figures[name] for name in FIGURES if name in figures], flaws,
+        printable(name_of(row)),
+        row.get("title", ""),
+        row.get("rows", 0),
+        row.get("columns", 0),
+        verdict,
+        grade,
+        row.get("open", 0),
+        "".join(row.get("palette", ())),
+        runs_of(row.get("picture", "")),
+        runs_of(row.get("other", "")),
+        row.get("lines", 0),
+        row.get("seconds", 0),
+        words,
+        givens,
+        [figures[name] for name in FIGURES if name in figures],
+        flaws,
     ]
     while record[-1] in (0, "", []):
         record.pop()
@@ -117,7 +159,11 @@ def _environment() -> Any:
     except ImportError:
         raise Failure(str(Missing("jinja2", "makes the report"))) from None
     environment = Environment(
-        loader=FileSystemLoader(_FOLDER), autoescape=True, undefined=StrictUndefined, trim_blocks=True, lstrip_blocks=True
+        loader=FileSystemLoader(_FOLDER),
+        autoescape=True,
+        undefined=StrictUndefined,
+        trim_blocks=True,
+        lstrip_blocks=True,
     )
     environment.filters["grouped"] = lambda number: f"{number:,}"
     environment.filters["percent"] = lambda share: f"{100 * share:.3f}%"
