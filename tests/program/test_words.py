@@ -1,4 +1,5 @@
-"""The words of the program: files, options, help and what is refused; and what goes from one command to the next."""
+"""The words of the program: files, options, help and what is refused; and what goes from one
+command to the next."""
 
 import re
 
@@ -8,8 +9,8 @@ from tried import EXAMPLES, Ended, ended
 
 PIXEL = 'P3\n1 1\n255\n0 0 0\n'
 THREE = 'P3\n2 2\n255\n0 0 0\n0 0 0\n0 0 0\n255 255 255\n'
-# A background of three different samples: read in another order, it would be the colour of the last two cells, whose certificate is
-# another.
+# A background of three different samples: read in another order, it would be the colour of the last
+# two cells, whose certificate is another.
 TURNED = 'P3\n3 1\n255\n10 20 30\n30 20 10\n30 20 10\n'
 TURNED_CERT = 'nonocert 1\nline r 1\nline c 3\nline r 1\ndone\n'
 SQUARE = 'width 2\nheight 2\nrows\n1\n1\ncolumns\n1\n1\n'
@@ -23,7 +24,7 @@ TOO_LONG = b'nonobench: input too long\n'
 def test_certificates_of_the_examples(program):
     for name, wrote in (('diagonal', YES), ('given', b'certificate accepted, givens 1\n')):
         assert ended(
-            [program.path, 'check', EXAMPLES / f'{name}.ppm', EXAMPLES / f'{name}.cert']
+            [program.path, 'check', EXAMPLES / f'{name}.ppm', EXAMPLES / f'{name}.ppm.cert']
         ) == Ended(0, wrote, b'')
 
 
@@ -31,7 +32,8 @@ def test_clues_of_the_heart(program):
     run = ended([program.path], (EXAMPLES / 'heart.ppm').read_bytes())
     assert (run.status, run.said) == (0, b'')
     assert run.wrote.startswith(
-        b'r 1: 2a 2a\nr 2: 1a 1b 2a 4a\nr 3: 1a 2b 6a\nr 4: 1a 1b 7a\nr 5: 7a\nr 6: 5a\nr 7: 3a\nr 8: 1a\nc 1: 3a\nc 2: 1a 3b 1a\n'
+        b'r 1: 2a 2a\nr 2: 1a 1b 2a 4a\nr 3: 1a 2b 6a\nr 4: 1a 1b 7a\nr 5: 7a\nr 6: 5a\nr 7: 3a\nr'
+        b' 8: 1a\nc 1: 3a\nc 2: 1a 3b 1a\n'
     )
 
 
@@ -132,7 +134,8 @@ FORMATS = {(): b'nonolemma 2', ('--format', '2'): b'nonolemma 2', ('--format=1',
 @pytest.mark.parametrize('words', FORMATS)
 @pytest.mark.parametrize('background', [(), ('--background', '0,0,0')])
 def test_formats_of_certificates(program, words, background, tmp_path):
-    """What is printed is accepted, with the same background. In the older format each line has one step."""
+    """What is printed is accepted, with the same background. In the older format each line has one
+    step."""
     [picture] = put(tmp_path, picture=THREE)
     run = ended([program.path, 'prove', *words, picture, *background])
     assert (run.status, run.said) == (0, b'')
@@ -156,7 +159,7 @@ def test_files_that_are_not_there(program, tmp_path):
     """The first is read before the second, and both before either is looked at."""
     [picture] = put(tmp_path, picture='P6')
     none = tmp_path / 'none'
-    for words in ((none, EXAMPLES / 'diagonal.cert'), (picture, none), (tmp_path, picture)):
+    for words in ((none, EXAMPLES / 'diagonal.ppm.cert'), (picture, none), (tmp_path, picture)):
         assert ended([program.path, 'check', *words]) == Ended(3, b'', UNREAD), words
 
 
@@ -253,7 +256,8 @@ def test_work(program, name, tmp_path):
 
 
 def test_what_a_session_printed_is_accepted(program, tmp_path):
-    """On this background a colour is added and a cell painted with it, two rows are swapped, and a cell is a given."""
+    """On this background a colour is added and a cell painted with it, two rows are swapped, and a
+    cell is a given."""
     [file] = put(tmp_path, file='P3\n2 2\n255\n10 20 30\n30 20 10\n30 20 10\n10 20 30\n')
     worked = 'colour add 9 8 7\npaint 2 2 b\npaint 2 2 .\nswap row 1 2\npin 1 1\n'
     background = ['--background', '10,20,30']
@@ -358,8 +362,69 @@ def test_help(program, name):
     assert line in run.wrote.decode().split('\n')
 
 
+# Words that ask for help or the version, and for something else too. A file of that name is there.
+BESIDE = [
+    *(
+        [command, *files]
+        for command in ('work', 'prove', 'assess', 'check')
+        for files in (['-h.ppm'], ['-h', 'x.ppm'], ['x.ppm', '-h'], ['x.ppm', '--help'])
+    ),
+    ['check', 'x.ppm', '-h.cert'],
+    ['assess', 'x.ppm', '-h.ppm', 'x.ppm'],
+    ['assess', '--format', 'ppm', '-h'],
+    ['-h', 'assess'],
+    ['-h', 'x.ppm'],
+    ['--version', 'assess', 'x.ppm'],
+    ['-V', 'x.ppm'],
+]
+
+
+@pytest.mark.since('0.8.0')
+@pytest.mark.parametrize('words', BESIDE, ids=' '.join)
+def test_help_beside_other_words(program, words, tmp_path):
+    """No puzzle passes because a file has such a name."""
+    for name in ('x.ppm', '-h.ppm', '-h.cert'):
+        (tmp_path / name).write_text(THREE)
+    assert ended([program.path, *words], cwd=tmp_path) == Ended(
+        2,
+        b'',
+        b'nonobench: help and version go alone; a name that begins with - needs ./ or --\n',
+    )
+
+
+@pytest.mark.since('0.8.0')
+@pytest.mark.parametrize('words', [['./-h.ppm'], ['--', '-h.ppm']])
+def test_names_that_begin_with_a_hyphen(program, words, tmp_path):
+    (tmp_path / '-h.ppm').write_text(THREE)
+    run = ended([program.path, 'assess', *words], cwd=tmp_path)
+    assert (run.status, run.said, run.wrote[:7]) == (0, b'', b'unique\n')
+
+
+@pytest.mark.since('0.8.0')
+@pytest.mark.parametrize(
+    'words',
+    [
+        ['-h'],
+        ['--help'],
+        ['help'],
+        *(
+            [command, flag]
+            for command in ('work', 'check', 'prove', 'assess')
+            for flag in ('-h', '--help')
+        ),
+        *(['help', command] for command in ('work', 'check', 'prove', 'assess')),
+    ],
+    ids=' '.join,
+)
+def test_help_that_is_asked_for_alone(program, words):
+    run = ended([program.path, *words])
+    assert (run.status, run.said) == (0, b'')
+    assert b'Usage: nonobench' in run.wrote
+
+
 def test_version(program):
-    """Any version, so that a release's program can be tried; tests/documents compares a built program with the sources."""
+    """Any version, so that a release's program can be tried; tests/documents compares a built
+    program with the sources."""
     run = ended([program.path, '--version'])
     assert run.status == 0
     assert re.fullmatch(r'nonobench [0-9]+\.[0-9]+\.[0-9]+\n', run.wrote.decode())

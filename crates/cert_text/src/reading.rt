@@ -138,10 +138,10 @@ fn read_lines(
 ///
 /// Lines end with a line feed, which the last may lack. The first line says the form: `nonocert 1`, `nonocert 2`,
 /// `nonolemma 1` or `nonolemma 2`, else the error is `NotCert` at line 1. In all but `nonocert 1` lines `given R C` may
-/// follow, each after the one before in the order of rows. Each further line is one of the form's, as `docs/FORMATS.md`
-/// says, with single spaces and numbers without leading zeros. Any other line is `BadLine`. Whether a picture has the
-/// lines and cells, and whether there are such lemmas, is not checked. Out of memory is answered where it occurs, before
-/// any later error.
+/// follow, each after the one before in the order of rows. Each further line is one of the form's, as
+/// `docs/FILE-FORMATS.md` says, with single spaces and numbers without leading zeros. Any other line is `BadLine`.
+/// Whether a picture has the lines and cells, and whether there are such lemmas, is not checked. Out of memory is
+/// answered where it occurs, before any later error.
 pub fn read_cert(alloc: Global, bytes: &[u8]) -> Result<Cert, CertFault>
     ensures value { Gives CertFault.Memory (λ cert. cert) result (cert_of bytes.now) }
     ensures cert { IfOk result IsCert }

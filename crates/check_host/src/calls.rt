@@ -13,7 +13,7 @@ use std::alloc::Global;
 use text_check::{CheckFault, checked_text, published_text};
 
 // The version of the library, as `nonobench --version` prints it after the name.
-const VERSION: &str = "0.7.9";
+const VERSION: &str = "0.8.0";
 
 /// Puts the version of the library.
 #[unsafe(no_mangle)]

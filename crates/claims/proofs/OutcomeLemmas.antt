@@ -34,6 +34,7 @@ use Rattle.command_text.specs.Words.{Texts}
 pub fails : (f : ProgramFault) → status_of f ≡ 0 → ⊥
 fails (fault.Words text) e = absurd cc
 fails fault.NotText e = absurd cc
+fails fault.HelpBeside e = absurd cc
 fails fault.Background e = absurd cc
 fails fault.BackgroundOfNon e = absurd cc
 fails fault.Read e = absurd cc

@@ -1,5 +1,5 @@
 -- What `work` and a path ask for, where no option is given.
-use Rattle.std.proofs.Common.{◌≡◌, ◌==◌, ℕ, Bool, true, false, List, [], ◌∷◌, codes, Option, None, Some, Ok, Err, refl, ap, subst, ◌∙◌, arith, inl, inr, eqb-true, rules}
+use Rattle.std.proofs.Common.{◌≡◌, ◌==◌, ◌&&◌, ◌||◌, ℕ, Bool, true, false, List, [], ◌∷◌, bytes_eq, codes, Option, None, Some, Ok, Err, refl, ap, subst, sym, ◌∙◌, arith, inl, inr, eqb-true, rules, true≢false}
 use Rattle.clap.specs.declared.error.kind.ErrorKind.{ErrorKind}
 use Rattle.clap.specs.Simple.{Shape, built_leaf, inherited, marked_built, rows_at, with_leaf_noted}
 use Rattle.clap.specs.Walk.{Walk, arg_by_index, finished, nothing_held, rows_after, to_positional, walk_from, walked}
@@ -12,7 +12,7 @@ use Rattle.command_line.specs.declared.words.Task.{Task}
 use Rattle.command_line.specs.declared.words.Task.TheVariants.{Help, Work}
 use Rattle.command_line.specs.Laws.{DefaultsAreKnown, IsByDefault, default_options}
 use Rattle.command_line.specs.Program.{Formats, program_app, top_shape, work_shape}
-use Rattle.command_line.specs.Words.{AreOptions, Given, IsAsked, IsTaskBy, IsUntaken, IsWork, Spells, background_asked, given_in}
+use Rattle.command_line.specs.Words.{AreOptions, Given, IsAsked, IsTaskBy, IsUntaken, IsWork, Spells, asks_alone, background_asked, given_in}
 
 no_hyphen : (first : ℕ) → (first ≡ 45 → ⊥) → (first == 45) ≡ false
 no_hyphen first n = by (first == 45) refl
@@ -100,17 +100,27 @@ options_are path options are =
 
 -- ---- the task
 
+differs : (first second : ℕ) (rest more : Text) → (first == second) ≡ false → bytes_eq (first ∷ rest) (second ∷ more) ≡ false
+differs first second rest more e = ap (λ (b : Bool). b && bytes_eq rest more) e
+
+none_of : (a b c : Bool) → a ≡ false → b ≡ false → c ≡ false → (a || (b || c)) ≡ false
+none_of a b c x y z = λ i. x i || (y i || z i)
+
+not_alone : (first : ℕ) (rest : Text) → (first == 45) ≡ false → asks_alone (codes "work" ∷ (first ∷ rest) ∷ []) ≡ false
+not_alone first rest e =
+    none_of (bytes_eq (codes "work") (codes "help")) (bytes_eq (first ∷ rest) (codes "-h")) (bytes_eq (first ∷ rest) (codes "--help")) refl (differs first 45 rest _ e) (differs first 45 rest _ e)
+
 module _ (formats : Formats) (first : ℕ) (rest : Text) (e : (first == 45) ≡ false) where
   asked : (task : Task) → IsAsked (subcommand_of (program_app formats) (codes "work" ∷ (first ∷ rest) ∷ [])) (Ok task) → IsWork (given_alone (first ∷ rest)) (Ok task)
   asked task a = subst (λ (g : Given). IsWork g (Ok task)) (given_rows formats first rest e) (a.work _ (enters_work formats (first ∷ rest)))
 
-  -- IsWork has no other task, and IsUntaken none but a text
+  -- IsWork has no other task, and IsUntaken has none, since the path is no flag for help
   by_task : (task : Task) → IsWork (given_alone (first ∷ rest)) (Ok task) → IsByDefault (first ∷ rest) task
   by_task (Work file options) w = (w.0, options_are (first ∷ rest) options w.1)
   by_task task w = absurd w
 
-  by_untaken : (kind : ErrorKind) (task : Task) → IsUntaken kind (Ok task) → IsByDefault (first ∷ rest) task
-  by_untaken kind (Help text) w = tt
+  by_untaken : (kind : ErrorKind) (task : Task) → IsUntaken (codes "work" ∷ (first ∷ rest) ∷ []) kind (Ok task) → IsByDefault (first ∷ rest) task
+  by_untaken kind (Help text) w = absurd (true≢false (sym w.1 ∙ not_alone first rest e))
   by_untaken kind task w = absurd w
 
   by_kinds : (kinds : Kinds) (task : Task) → IsTaskBy kinds (program_app formats) (codes "work" ∷ (first ∷ rest) ∷ []) (Ok task) → IsByDefault (first ∷ rest) task

@@ -2,4 +2,5 @@ pub mod AloneLemmas
 pub mod CommandLemmas
 pub mod DefaultLemmas
 pub mod EnterLemmas
+pub mod HelpLemmas
 pub mod WordLemmas

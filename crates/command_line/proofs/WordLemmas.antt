@@ -171,47 +171,48 @@ memory_is : (e : ProgramFault) → e ≡ fault.Memory → failed e ≡ failed fa
 memory_is e is = ap failed is
 
 -- memory ran out, or the kind is another
-memory_or : (k : ErrorKind) (r : Result Task ProgramFault) → IsUntaken k r → (r ≡ Err fault.Memory) ⊎ (k ≡ kind.OutOfMemory → ⊥)
-memory_or k (Ok Clues) u = absurd u
-memory_or k (Ok (Work file options)) u = absurd u
-memory_or k (Ok (Check file cert givens background)) u = absurd u
-memory_or k (Ok (Prove file givens options)) u = absurd u
-memory_or k (Ok (Assess files options givens cert)) u = absurd u
-memory_or k (Ok (Help text)) u = inr (shown_not_memory k u)
-memory_or k (Err (fault.Words text)) u = inr u.1
-memory_or k (Err (fault.Ppm x)) u = inl (memory_is (fault.Ppm x) u)
-memory_or k (Err (fault.Non x)) u = inl (memory_is (fault.Non x) u)
-memory_or k (Err (fault.Edit x)) u = inl (memory_is (fault.Edit x) u)
-memory_or k (Err fault.NoPicture) u = inl (memory_is fault.NoPicture u)
-memory_or k (Err fault.NoGoal) u = inl (memory_is fault.NoGoal u)
-memory_or k (Err (fault.Cert x)) u = inl (memory_is (fault.Cert x) u)
-memory_or k (Err fault.NoCertificate) u = inl (memory_is fault.NoCertificate u)
-memory_or k (Err (fault.Givens x)) u = inl (memory_is (fault.Givens x) u)
-memory_or k (Err fault.Memory) u = inl refl
-memory_or k (Err fault.TooLong) u = inl (memory_is fault.TooLong u)
-memory_or k (Err fault.NotText) u = inl (memory_is fault.NotText u)
-memory_or k (Err fault.Background) u = inl (memory_is fault.Background u)
-memory_or k (Err fault.BackgroundOfNon) u = inl (memory_is fault.BackgroundOfNon u)
-memory_or k (Err fault.OneFile) u = inl (memory_is fault.OneFile u)
-memory_or k (Err fault.Unfit) u = inl (memory_is fault.Unfit u)
-memory_or k (Err fault.Read) u = inl (memory_is fault.Read u)
-memory_or k (Err fault.Write) u = inl (memory_is fault.Write u)
+memory_or : (words : List Text) (k : ErrorKind) (r : Result Task ProgramFault) → IsUntaken words k r → (r ≡ Err fault.Memory) ⊎ (k ≡ kind.OutOfMemory → ⊥)
+memory_or words k (Ok Clues) u = absurd u
+memory_or words k (Ok (Work file options)) u = absurd u
+memory_or words k (Ok (Check file cert givens background)) u = absurd u
+memory_or words k (Ok (Prove file givens options)) u = absurd u
+memory_or words k (Ok (Assess files options givens cert)) u = absurd u
+memory_or words k (Ok (Help text)) u = inr (shown_not_memory k u.0)
+memory_or words k (Err fault.HelpBeside) u = inr (shown_not_memory k u.0)
+memory_or words k (Err (fault.Words text)) u = inr u.1
+memory_or words k (Err (fault.Ppm x)) u = inl (memory_is (fault.Ppm x) u)
+memory_or words k (Err (fault.Non x)) u = inl (memory_is (fault.Non x) u)
+memory_or words k (Err (fault.Edit x)) u = inl (memory_is (fault.Edit x) u)
+memory_or words k (Err fault.NoPicture) u = inl (memory_is fault.NoPicture u)
+memory_or words k (Err fault.NoGoal) u = inl (memory_is fault.NoGoal u)
+memory_or words k (Err (fault.Cert x)) u = inl (memory_is (fault.Cert x) u)
+memory_or words k (Err fault.NoCertificate) u = inl (memory_is fault.NoCertificate u)
+memory_or words k (Err (fault.Givens x)) u = inl (memory_is (fault.Givens x) u)
+memory_or words k (Err fault.Memory) u = inl refl
+memory_or words k (Err fault.TooLong) u = inl (memory_is fault.TooLong u)
+memory_or words k (Err fault.NotText) u = inl (memory_is fault.NotText u)
+memory_or words k (Err fault.Background) u = inl (memory_is fault.Background u)
+memory_or words k (Err fault.BackgroundOfNon) u = inl (memory_is fault.BackgroundOfNon u)
+memory_or words k (Err fault.OneFile) u = inl (memory_is fault.OneFile u)
+memory_or words k (Err fault.Unfit) u = inl (memory_is fault.Unfit u)
+memory_or words k (Err fault.Read) u = inl (memory_is fault.Read u)
+memory_or words k (Err fault.Write) u = inl (memory_is fault.Write u)
 
 -- ---- the task
 
-untaken_by : (kinds : Kinds) (app : App) (words : List Text) (k : ErrorKind) (r : Result Task ProgramFault) → (takes app words ≡ true → ⊥) → IsAmong k kinds → IsUntaken k r
+untaken_by : (kinds : Kinds) (app : App) (words : List Text) (k : ErrorKind) (r : Result Task ProgramFault) → (takes app words ≡ true → ⊥) → IsAmong k kinds → IsUntaken words k r
     → IsTaskBy kinds app words r
 untaken_by [] app words k r refused among u = absurd among
 untaken_by (first ∷ more) app words k r refused among u = (refused, (k, (among, u)))
 
 untaken_as : (kinds : Kinds) (app : App) (words : List Text) (e : Error) (r : Result Task ProgramFault) → HasKind kinds e → (takes app words ≡ true → kind_of e ≡ kind.OutOfMemory)
-    → IsUntaken (kind_of e) r
+    → IsUntaken words (kind_of e) r
     → (r ≡ Err fault.Memory) ⊎ IsTaskBy kinds app words r
 untaken_as kinds app words e r has passes u =
     let among : (kind_of e ≡ kind.OutOfMemory → ⊥) → IsAmong (kind_of e) kinds = λ other. ⊎_elim (λ memory. absurd (other memory)) (λ one. one) has in
-    ⊎_elim (λ memory. inl memory) (λ other. inr (untaken_by kinds app words (kind_of e) r (λ t. other (passes t)) (among other) u)) (memory_or (kind_of e) r u)
+    ⊎_elim (λ memory. inl memory) (λ other. inr (untaken_by kinds app words (kind_of e) r (λ t. other (passes t)) (among other) u)) (memory_or words (kind_of e) r u)
 
-pub not_taken : (words : List Text) (e : Error) (r : Result Task ProgramFault) → (formats : Formats) × (AreFormats formats × ParsesAs (program_app formats) words (Err e)) → IsUntaken (kind_of e) r
+pub not_taken : (words : List Text) (e : Error) (r : Result Task ProgramFault) → (formats : Formats) × (AreFormats formats × ParsesAs (program_app formats) words (Err e)) → IsUntaken words (kind_of e) r
     → IsTaskOf words r
 not_taken words e r p u = ⊎_elim (λ memory. inl memory) (λ told. inr (p.0, (p.1.0, told))) (untaken_as (fault_of (program_app p.0) words) (program_app p.0) words e r p.1.1.0 p.1.1.1 u)
 

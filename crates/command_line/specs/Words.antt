@@ -1,5 +1,5 @@
 -- What the words ask for, by the values that the parser of words found.
-use Rattle.std.specs.Prelude.{◌≡◌, ◌⊎◌, ◌||◌, ℕ, ◌<◌, ◌≤◌, ◌↔◌, Bool, true, false, List, [], ◌∷◌, codes, Option}
+use Rattle.std.specs.Prelude.{◌≡◌, ◌⊎◌, ◌||◌, ℕ, ◌<◌, ◌≤◌, ◌↔◌, Bool, true, false, List, [], ◌∷◌, bytes_eq, codes, Option}
 use Rattle.std.specs.Prelude.{is_some, length, option_map, unwrap_or}
 use Rattle.std.specs.Prelude.{None, Some, Result, Ok, Err, refl}
 use Rattle.std.specs.Str.Parse.{IsNumeral, digits_value, without_leading_plus}
@@ -190,12 +190,25 @@ is_shown DisplayHelp = true
 is_shown DisplayVersion = true
 is_shown _ = false
 
--- What comes of an error of this kind: help or the version is shown; or the words are refused; or memory ran out.
-abbrev pub IsUntaken : ErrorKind → Result Task ProgramFault → Type 0
-IsUntaken kind (Ok (Help text)) = is_shown kind ≡ true
-IsUntaken kind (Ok _) = ⊥
-IsUntaken kind (Err (fault.Words text)) = (is_shown kind ≡ false) × (kind ≡ OutOfMemory → ⊥)
-IsUntaken kind (Err e) = e ≡ fault.Memory
+-- a flag that asks for help
+abbrev pub is_help_flag : Text → Bool
+is_help_flag word = bytes_eq word (codes "-h") || bytes_eq word (codes "--help")
+
+-- Words that can ask for help or the version and for nothing else: one word; or two, of which the second is a flag for
+-- help, or the first is `help`.
+abbrev pub asks_alone : List Text → Bool
+asks_alone (word ∷ []) = true
+asks_alone (first ∷ second ∷ []) = bytes_eq first (codes "help") || is_help_flag second
+asks_alone words = false
+
+-- What comes of words with an error of this kind: help or the version is shown, where they ask for nothing else; or
+-- they are refused; or memory ran out.
+abbrev pub IsUntaken : List Text → ErrorKind → Result Task ProgramFault → Type 0
+IsUntaken words kind (Ok (Help text)) = (is_shown kind ≡ true) × (asks_alone words ≡ true)
+IsUntaken words kind (Ok _) = ⊥
+IsUntaken words kind (Err fault.HelpBeside) = (is_shown kind ≡ true) × (asks_alone words ≡ false)
+IsUntaken words kind (Err (fault.Words text)) = (is_shown kind ≡ false) × (kind ≡ OutOfMemory → ⊥)
+IsUntaken words kind (Err e) = e ≡ fault.Memory
 
 -- ---- words
 
@@ -204,7 +217,7 @@ IsUntaken kind (Err e) = e ≡ fault.Memory
 abbrev pub IsTaskBy : Kinds → App → List Text → Result Task ProgramFault → Type 0
 IsTaskBy [] app words r = IsNamed (subcommand_of app words) × IsAsked (subcommand_of app words) r
 IsTaskBy (first ∷ more) app words r =
-    (takes app words ≡ true → ⊥) × ((kind : ErrorKind) × (IsAmong kind (first ∷ more) × IsUntaken kind r))
+    (takes app words ≡ true → ⊥) × ((kind : ErrorKind) × (IsAmong kind (first ∷ more) × IsUntaken words kind r))
 
 -- What words ask for: memory ran out; or it is as the definition of the program's command line reads them.
 abbrev pub IsTaskOf : List Text → Result Task ProgramFault → Type 0

@@ -4,7 +4,7 @@ ghost use Rattle.std.specs.Prelude.{◌≡◌, ◌↔◌, ◌<◌, ◌≤◌, �
 ghost use Rattle.clap.specs.Walk.{texts};
 ghost use Rattle.clap.specs.Words.{Text, first_value, found_of, kind_of, one_text, subcommand_rows_of};
 ghost use Rattle.command_line.specs.declared.words.Task.TheVariants.{Clues};
-ghost use Rattle.command_line.specs.Words.{IsAsked, IsCheck, IsLawfulTask, IsProve, IsTaskOf, IsUntaken, IsWork, Spells, background_asked, given_of};
+ghost use Rattle.command_line.specs.Words.{IsAsked, IsCheck, IsLawfulTask, IsProve, IsTaskOf, IsUntaken, IsWork, Spells, asks_alone, background_asked, given_of};
 
 use crate::assessing::assess_of;
 use crate::command::parsed;
@@ -59,8 +59,8 @@ const DEPTH: u16 = 100;
 /// Reads the words after the program's own name. No words at all ask for the clues.
 ///
 /// Files, certificate, givens, format, background, history and allowance are those of the words, as the parser reads them. Help
-/// and version are a task. The errors are `Words`, which carries the parser's text, `Background`, `BackgroundOfNon`, `OneFile` and
-/// `Memory`.
+/// and version are a task where nothing else is asked for. The errors are `Words`, which carries the parser's text, `HelpBeside`,
+/// `Background`, `BackgroundOfNon`, `OneFile` and `Memory`.
 pub fn read_words<'a>(alloc: Global, words: &'a [&str]) -> Result<Task<'a>, ProgramFault>
     ensures none { words.entry.now ≡ [] → result ≡ Ok Clues }
     ensures lawful { IfOk result IsLawfulTask }
@@ -71,7 +71,7 @@ pub fn read_words<'a>(alloc: Global, words: &'a [&str]) -> Result<Task<'a>, Prog
     }
     match parsed(alloc, words)? {
         Ok(matches) => task_of(alloc, &matches),
-        Err(error) => untaken(alloc, &error),
+        Err(error) => untaken(alloc, words, &error),
     }
 }
 
@@ -194,8 +194,8 @@ fn depth_or_default(depth: Option<u16>) -> u16
 }
 
 // What comes of an error of the parser: memory ran out, the words are refused, or they ask for help or the version.
-fn untaken<'a>(alloc: Global, error: &Error) -> Result<Task<'a>, ProgramFault>
-    ensures said { IsUntaken (kind_of error.now) result }
+fn untaken<'a>(alloc: Global, words: &[&str], error: &Error) -> Result<Task<'a>, ProgramFault>
+    ensures said { IsUntaken (texts words.entry.now) (kind_of error.now) result }
     ensures lawful { IfOk result IsLawfulTask }
 {
     if error.kind() == ErrorKind::OutOfMemory {
@@ -204,7 +204,20 @@ fn untaken<'a>(alloc: Global, error: &Error) -> Result<Task<'a>, ProgramFault>
     let text = format!(in alloc; "{error}")?;
     if error.use_stderr() {
         Err(ProgramFault::Words(text))
-    } else {
+    } else if asks_alone(words) {
         Ok(Task::Help(text))
+    } else {
+        Err(ProgramFault::HelpBeside)
+    }
+}
+
+// Whether words that ask for help or the version ask for nothing else.
+fn asks_alone(words: &[&str]) -> bool
+    ensures { result ≡ asks_alone (texts words.entry.now) }
+{
+    match *words {
+        [_] => true,
+        [first, second] => first == "help" || second == "-h" || second == "--help",
+        _ => false,
     }
 }

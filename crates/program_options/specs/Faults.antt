@@ -14,7 +14,7 @@ use Rattle.command_text.specs.declared.session_fault.SessionFault.TheVariants as
 use Rattle.program_options.specs.declared.fault.ProgramFault.{ProgramFault}
 use Rattle.program_options.specs.declared.fault.ProgramFault.TheVariants.{Ppm, Non, Edit, NoPicture, Cert}
 use Rattle.program_options.specs.declared.fault.ProgramFault.TheVariants.{NoCertificate, Givens}
-use Rattle.program_options.specs.declared.fault.ProgramFault.TheVariants.{Memory, TooLong, Words, NotText, Background}
+use Rattle.program_options.specs.declared.fault.ProgramFault.TheVariants.{Memory, TooLong, Words, NotText, HelpBeside, Background}
 use Rattle.program_options.specs.declared.fault.ProgramFault.TheVariants.{BackgroundOfNon, NoGoal, OneFile, Unfit}
 use Rattle.program_options.specs.declared.fault.ProgramFault.TheVariants.{Read, Write}
 
@@ -57,6 +57,7 @@ fault_text Memory = checks.fault_text check.Memory
 fault_text TooLong = codes "input too long"
 fault_text (Words text) = string_bytes text
 fault_text NotText = codes "a word is not UTF-8"
+fault_text HelpBeside = codes "help and version go alone; a name that begins with - needs ./ or --"
 fault_text Background = codes "background must be R,G,B"
 fault_text BackgroundOfNon = codes "background goes with ppm"
 fault_text OneFile = codes "givens and certificate go with one file"
@@ -68,6 +69,7 @@ fault_text Write = codes "write failed"
 abbrev pub status_of : ProgramFault → ℕ
 status_of (Words text) = 2
 status_of NotText = 2
+status_of HelpBeside = 2
 status_of Background = 2
 status_of BackgroundOfNon = 2
 status_of OneFile = 2

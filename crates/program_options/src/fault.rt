@@ -42,6 +42,8 @@ pub enum ProgramFault {
     Words(String),
     /// A word is not UTF-8.
     NotText,
+    /// Help or the version was asked for, and something else with it.
+    HelpBeside,
     /// The background's colour is not three samples, as in `255,0,0`.
     Background,
     /// A background's colour was given for a .non text.
@@ -71,8 +73,8 @@ impl ProgramFault {
     {
         match self {
             ProgramFault::Words(_) | ProgramFault::NotText => 2,
+            ProgramFault::HelpBeside | ProgramFault::OneFile => 2,
             ProgramFault::Background | ProgramFault::BackgroundOfNon => 2,
-            ProgramFault::OneFile => 2,
             ProgramFault::Read | ProgramFault::Write => 3,
             _ => 1,
         }
@@ -96,6 +98,9 @@ impl fmt::Display for ProgramFault {
             ProgramFault::TooLong => f.write_str("input too long"),
             ProgramFault::Words(text) => f.write_str(text.as_str()),
             ProgramFault::NotText => f.write_str("a word is not UTF-8"),
+            ProgramFault::HelpBeside => {
+                f.write_str("help and version go alone; a name that begins with - needs ./ or --")
+            }
             ProgramFault::Background => f.write_str("background must be R,G,B"),
             ProgramFault::BackgroundOfNon => f.write_str("background goes with ppm"),
             ProgramFault::OneFile => f.write_str("givens and certificate go with one file"),

@@ -1,4 +1,4 @@
 //! The version of all that is built from these crates.
 
 /// The version, as `nonobench --version` prints it after the name.
-pub const VERSION: &str = "0.7.9";
+pub const VERSION: &str = "0.8.0";
