@@ -2,8 +2,10 @@
 
 import {$, hush, say} from './base/elements.js';
 import {on} from './base/events.js';
+import {withIcon} from './draw/icons.js';
 import {sheet, startSheet} from './draw/sheet.js';
-import {showExportPanel, startExporting} from './export/exporting.js';
+import {startExporting} from './export/exporting.js';
+import {startAdjusting} from './import/adjusting.js';
 import {startPalettes} from './import/palettes.js';
 import {hearFiles} from './import/taking.js';
 import {startTracing} from './import/tracing.js';
@@ -13,6 +15,7 @@ import {startPlay} from './play/play.js';
 import {openAgain, startLanguage} from './start/language.js';
 import {startLinked} from './start/linked.js';
 import {showStart, startStart} from './start/start.js';
+import {startTours} from './start/tour.js';
 import {DIRECTION, LANGUAGE, phrase} from './texts/phrase.js';
 import {actionButton, actions, hearKeys, keyText, makeMenus} from './view/actions.js';
 import {addColourActions, addEditActions, addPictureActions, addViewActions} from './view/commands.js';
@@ -57,8 +60,10 @@ addPictureActions();
 startPalettes();
 addViewActions();
 startTracing();
+startAdjusting();
 startLanguage();
 addColourActions();
+startTours();
 addHelpActions();
 makeQuickButtons();
 hearKeys();
@@ -70,7 +75,6 @@ showWhyPanel();
 keep.ready();
 hearFiles();
 showStart();
-showExportPanel();
 startLinked().then(openAgain);
 keepOffline();
 
@@ -80,7 +84,7 @@ keepOffline();
 function nameParts() {
   const names = {
     menus: phrase('main.menus'),
-    quick: phrase('main.historyView'),
+    quick: phrase('main.history'),
     start: phrase('main.start'),
     work: phrase('main.picture'),
     tools: phrase('main.tools'),
@@ -89,9 +93,10 @@ function nameParts() {
     panels: phrase('main.whatBenchSays'),
     audit: phrase('import.verdict'),
     colours: phrase('view.colours'),
-    out: phrase('export.saveExport'),
     cell: phrase('view.cell'),
     lines: phrase('view.rowsColumns'),
+    details: phrase('view.details'),
+    zoom: phrase('view.view'),
   };
   for (const [id, name] of Object.entries(names)) $(id).setAttribute('aria-label', name);
   Object.assign(document.documentElement, {lang: LANGUAGE, dir: DIRECTION});
@@ -100,20 +105,16 @@ function nameParts() {
 
 // ---- what the whole page does with the bench
 
+// Undo and redo in the header, and what is seen of the picture at its lower right, as icons.
 function makeQuickButtons() {
-  for (const [id, name, short] of [
-           ['undo', phrase('view.undo'), '↶'],
-           ['redo', phrase('view.redo'), '↷'],
-           ['zoom-out', '−'],
-           ['fit', phrase('main.fit')],
-           ['zoom-in', '+']]) {
-    const button = actionButton(actions.get(id), {
-      'aria-label': actions.get(id).name,
-      title: `${actions.get(id).name} (${keyText(actions.get(id).key.split(' ')[0])})`,
-      'data-short': short
-    });
-    button.textContent = name;
-    $('quick').append(button);
+  const rooms = {quick: ['undo', 'redo'], zoom: ['bare', 'zoom-out', 'fit', 'zoom-in']};
+  for (const [room, ids] of Object.entries(rooms)) {
+    for (const id of ids) {
+      const {name, key} = actions.get(id);
+      const icon = {bare: 'picture', 'zoom-out': 'minus', 'zoom-in': 'plus'}[id] ?? id;
+      $(room).append(withIcon(actionButton(actions.get(id)), icon, name, keyText(key.split(' ')[0]))
+      );
+    }
   }
 }
 
@@ -133,6 +134,9 @@ function hearBench() {
     for (const id of ['undo', 'redo'])
       $('quick').querySelector(`[data-action="${id}"]`).disabled = !actions.get(id).can();
   });
+  on('moved',
+     ({isBare}) =>
+         $('zoom').querySelector('[data-action="bare"]').setAttribute('aria-pressed', isBare));
   on('stroke', hush);
   on('busy', (is) => sheet.stage.setAttribute('aria-busy', is));
   on('recovered', () => say(phrase('main.engineRestartedNothingLost')));

@@ -28,6 +28,10 @@ export const make = (name, attributes = {}, ...children) => {
 export const buttonOf = (id, name, run, more = {}) =>
     make('button', {type: 'button', id, onclick: run, ...more}, name);
 
+/** A field with its name before it, in the grid of all fields. */
+export const fieldOf = (name, ...fields) =>
+    make('label', {class: 'field'}, make('span', {}, name), ...fields);
+
 /** Makes a choice of some values, pairs of a value and its text; one may be chosen at first. */
 export const choiceOf = (attributes, options, chosen = null) => make(
     'select',

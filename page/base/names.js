@@ -4,7 +4,7 @@ import {phrase} from '../texts/phrase.js';
 import {capital} from './words.js';
 
 /** @type {Record<string, import('../texts/phrase.js').PlainPhrase>} */
-const GRADES = {
+const GRADE_NAMES = {
   __proto__: null,
   easy: 'base.easy',
   medium: 'base.medium',
@@ -23,26 +23,24 @@ const VERDICTS = {
 // A library of earlier versions has the word with a blank.
 const keyOf = (word) => word?.replace(' ', '-');
 
+/** How many grades there are. */
+export const GRADES = Object.keys(GRADE_NAMES).length;
+
 /** A grade in words, as a library or a sheet shows it. */
-export const gradeName = (word) => (GRADES[keyOf(word)] ? phrase(GRADES[keyOf(word)]) : word);
+export const gradeName = (word) =>
+    (GRADE_NAMES[keyOf(word)] ? phrase(GRADE_NAMES[keyOf(word)]) : word);
 
 /**
  * The place of a grade among all, the easiest first, and of a verdict; below 0 for what is none.
  */
-export const gradePlace = (word) => Object.keys(GRADES).indexOf(keyOf(word));
+export const gradePlace = (word) => Object.keys(GRADE_NAMES).indexOf(keyOf(word));
 export const verdictPlace = (word) => Object.keys(VERDICTS).indexOf(word);
 
 /** A verdict in words; what is none stays as it is. */
 export const verdictName = (word) => (VERDICTS[word] ? phrase(VERDICTS[word]) : word);
 
-/** The signs of verdicts, and a verdict with its sign as a title. */
-export const VERDICT_SIGNS = {
-  __proto__: null,
-  unique: '✓',
-  ambiguous: '≠',
-  undecided: '?'
-};
-export const verdictTitle = (word) => `${VERDICT_SIGNS[word]} ${capital(verdictName(word))}`;
+/** A verdict as a title. */
+export const verdictTitle = (word) => capital(verdictName(word));
 
 /**
  * The grade in one line, for a description, and what such a line begins with, in this language or

@@ -8,11 +8,11 @@ export function markRadio(group, isChosen) {
   }
 }
 
-/** A group of radio buttons: a click or an arrow chooses. */
+/** A group of radio buttons: a click or an arrow chooses; `pick` hears which of them it was. */
 export function radioGroup(group, pick) {
   group.addEventListener('click', (event) => {
     const button = event.target.closest('button');
-    if (button) pick(button);
+    if (button) pick(button, false);
   });
   group.addEventListener('keydown', (event) => {
     const way = {ArrowDown: 1, ArrowRight: 1, ArrowUp: -1, ArrowLeft: -1}[event.key];
@@ -22,7 +22,7 @@ export function radioGroup(group, pick) {
     event.stopPropagation();
     const next =
         buttons.at((buttons.indexOf(event.target.closest('button')) + way) % buttons.length);
-    pick(next);
+    pick(next, true);
     next.focus();
   });
 }

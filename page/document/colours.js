@@ -47,14 +47,6 @@ export function oklabOf(red, green, blue) {
   ];
 }
 
-/** The contrast of two triples of eight bits, from 1 to 21 (WCAG 2). */
-export function contrastOf(one, other) {
-  const light = ([red, green, blue]) =>
-      0.2126 * LIGHT_OF[red] + 0.7152 * LIGHT_OF[green] + 0.0722 * LIGHT_OF[blue] + 0.05;
-  const [a, b] = [light(one), light(other)];
-  return Math.max(a, b) / Math.min(a, b);
-}
-
 /**
  * How light a triple looks, from 0 to 255.
  * @param {ArrayLike<number>} triple

@@ -1,4 +1,4 @@
-// Colours that a solver may take for one another, as docs/FORMATS.md defines it. The engine says
+// Colours that a solver may take for one another, as docs/SESSION.md defines it. The engine says
 // the same of a document; here it is asked of palettes that are no document yet, with each cell
 // that is painted, and of colours as other eyes see them.
 

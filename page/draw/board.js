@@ -10,7 +10,7 @@
 // and `edges` around the pale ones; edges are `hair` wide; `font`, the size of a clue's text at
 // most, and `least`, at least; the `weight` of texts.
 
-import {cssOf, hexOf, inkOn} from '../document/colours.js';
+import {cssOf, hexOf, inkOn, lightness} from '../document/colours.js';
 import {LETTERS} from '../document/limits.js';
 
 const DIGIT = 0.58;  // the width of a digit by its size
@@ -20,6 +20,15 @@ export const coloursOf = (doc, isPaper = false) => ({
   fills: doc.colours.map((triple) => (isPaper ? hexOf : cssOf)(triple, doc.maxval)),
   inks: doc.colours.map((triple) => inkOn(triple, doc.maxval)),
 });
+
+// The lines between cells, thin and strong, on a light ground and on a dark one.
+const LINES = [['#d4d3cd', '#77797d'], ['#3f444c', '#8b9096']];
+
+/** The inks of the lines between cells on a ground of eight bits. */
+export function linesOn(ground) {
+  const [light, heavy] = LINES[lightness(ground) < 128 ? 1 : 0];
+  return {light, heavy};
+}
 
 export const wholeFrame = (x, y, cell, {rows, columns}) =>
     ({x, y, cell, rows, columns, top: 0, left: 0, bottom: rows - 1, right: columns - 1});

@@ -7,10 +7,11 @@ import {clamp} from '../base/words.js';
 const SMALLEST = 3;  // a cell's side in the page's pixels
 const LARGEST = 64;
 const MARGIN = 6;
-const FEW = 4;  // blocks of a clue for which a picture that is fitted has room, however short its
-                // clues and lines are
-const AROUND =
-    14;  // the page's pixels around the blocks of a clue: some more than the strips leave free
+// blocks of a clue for which a picture that is fitted has room, however short its clues and lines
+// are
+const FEW = 4;
+// the page's pixels around the blocks of a clue: some more than the strips leave free
+const AROUND = 14;
 const EDGES = {
   left: 23,
   top: 17
@@ -27,6 +28,7 @@ export class Geometry {
     this.slack = {x: 0, y: 0};  // free room at the left and above the clues
     this.isFitted = true;
     this.isFolded = false;  // whether clues are edges with numbers of lines alone
+    this.isBare = false;    // whether the picture is shown without grid and clues
     this.letters = false;
     this.rowSizes = [];  // of each clue: {signs, blocks}, measured once it changes
     this.columnSizes = [];
@@ -74,6 +76,7 @@ export class Geometry {
   // blocks more may come, and where they may, a quarter of what a line has cells: drawn narrower,
   // clues of twice as many blocks have room there.
   room(cell, spare = 1) {
+    if (this.isBare) return this.edges();
     const font = this.fontFor(cell);
     const isTiny = cell < 7 * this.scale;
     const tick = 4 * this.scale;
@@ -103,6 +106,8 @@ export class Geometry {
 
   // How much room the edges take that clues are folded to.
   edges() {
+    const margin = Math.round(MARGIN * this.scale);
+    if (this.isBare) return {left: margin, top: margin};
     return {left: Math.round(EDGES.left * this.scale), top: Math.round(EDGES.top * this.scale)};
   }
 

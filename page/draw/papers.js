@@ -18,8 +18,8 @@ export const LEAST_TEXT = 2;
 const PALE = 215;                         // from this lightness on white paper an edge is wanted
 const ROOM = 0.88;                        // of a cell's side, for a block of a clue
 const FRAMED = 1 - (1 - 2 * FRAME) ** 2;  // of a box's area, its frame
-const ALIKE = 0.065;  // in Oklab, on the mean over a box: so far apart are colours that are just
-                      // not too similar
+// in Oklab, on the mean over a box: so far apart are colours that are just not too similar
+const ALIKE = 0.065;
 
 /** The signs of colours on paper, each another one; the background has none. */
 export const signsOf = ({colours}) => ['', ...SIGNS].slice(0, colours.length);

@@ -4,10 +4,11 @@
 
 import {$, make} from '../base/elements.js';
 import {on, tell} from '../base/events.js';
+import {eightBits} from '../document/colours.js';
 import {docOf} from '../document/document.js';
 import {LETTERS} from '../document/limits.js';
 import {bench} from '../engine/bench.js';
-import {coloursOf} from './board.js';
+import {coloursOf, linesOn} from './board.js';
 import {Cells, GIVEN, HATCHED, LOCKED, RIVAL} from './cells.js';
 import {Geometry} from './geometry.js';
 import {drawMarks} from './marks.js';
@@ -127,6 +128,7 @@ class Sheet {
   /** How a cell looks, as a number. */
   lookOf(row, col) {
     let look = Math.max(0, LETTERS.indexOf(this.letterAt(row, col)));
+    if (this.geometry.isBare) return look;
     if (this.hatching === 'open' && this.isOpen(row, col)) look |= HATCHED;
     if (this.hatching !== 'off' || this.other) {
       const rival = this.rivalAt(row, col);
@@ -185,7 +187,7 @@ class Sheet {
 
   readInks() {
     const style = getComputedStyle(this.stage);
-    for (const name of ['paper', 'ink', 'faint', 'accent', 'tint', 'alarm', 'light', 'heavy'])
+    for (const name of ['paper', 'rule', 'ink', 'faint', 'accent', 'alarm'])
       this.inks[name] = style.getPropertyValue(`--${name}`).trim() || '#888';
     this.family = style.fontFamily;
   }
@@ -207,18 +209,17 @@ class Sheet {
   // digits.
   lookNow() {
     const {geometry: at, inks, doc} = this;
-    const wide = at.cell < 2 ? 0 : at.cell < 14 * at.scale ? 1 : 2;
-    const {light, heavy, ink, faint} = inks;
+    const wide = at.isBare || at.cell < 2 ? 0 : at.cell < 14 * at.scale ? 1 : 2;
+    const {ink, faint} = inks;
     return {
       ...coloursOf(doc),
-      signs: at.letters ? LETTERS : null,
+      signs: at.letters && !at.isBare ? LETTERS : null,
       family: this.family,
-      thin: at.cell < 6 * at.scale ? 0 : 1,
+      thin: at.isBare || at.cell < 6 * at.scale ? 0 : 1,
       wide,
       border: wide,
       isWhole: true,
-      light,
-      heavy,
+      ...linesOn(eightBits(doc.colours[0], doc.maxval)),
       ink,
       faint,
       style: 'chip',
@@ -308,6 +309,13 @@ class Sheet {
     const box = this.view.getBoundingClientRect();
     const [x, y] = [(event.clientX - box.left) * at.scale, (event.clientY - box.top) * at.scale];
     return x < at.originX || y < at.originY || x > at.width || y > at.height;
+  }
+
+  /** Hides grid and clues, or shows them again. */
+  turnBare() {
+    this.geometry.isBare = !this.geometry.isBare;
+    this.geometry.refit();
+    this.redrawAll();
   }
 
   /** Shows the whole picture. */

@@ -33,6 +33,7 @@ export class Strips {
       pen.fillStyle = sheet.inks.paper;
       pen.fillRect(0, 0, this.canvases[axis].width, this.canvases[axis].height);
     }
+    if (at.isBare) return;
     const {top, left, bottom, right} = at.seen();
     for (let row = top; row <= bottom; row++) this.line(sheet, 'r', row, false);
     for (let col = left; col <= right; col++) this.line(sheet, 'c', col, false);
@@ -63,7 +64,7 @@ export class Strips {
 
   /** Draws some lines again. */
   some(sheet, rows, columns) {
-    if (!this.key) return;
+    if (!this.key || sheet.geometry.isBare) return;
     const {top, left, bottom, right} = sheet.geometry.seen();
     for (const row of rows)
       if (row >= top && row <= bottom) this.line(sheet, 'r', row, true);
@@ -78,7 +79,7 @@ export class Strips {
     const isMarked = sheet.isMarked(axis, at);
     const isChanged = sheet.isChanged(axis, at);
     if (anew || isMarked || isChanged) {
-      pen.fillStyle = isMarked || isChanged ? sheet.inks.tint : sheet.inks.paper;
+      pen.fillStyle = isMarked || isChanged ? sheet.inks.rule : sheet.inks.paper;
       pen.fillRect(x, y, width, height);
     }
     const edge = Math.round(3 * sheet.geometry.scale);
@@ -174,7 +175,8 @@ export class Strips {
 
   /** Whether a clue is drawn in part only, or without its numbers. */
   isCut(sheet, axis, at) {
-    return sheet.geometry.cell < 10 * sheet.geometry.scale || this.isBeyond(sheet, axis, at);
+    const {isBare, cell, scale} = sheet.geometry;
+    return !isBare && (cell < 10 * scale || this.isBeyond(sheet, axis, at));
   }
 
   /** Of how many clues not all blocks have room. */

@@ -1,4 +1,4 @@
-// The texts that a session answers with, as docs/FORMATS.md tells them. No mark ends an answer:
+// The texts that a session answers with, as docs/SESSION.md tells them. No mark ends an answer:
 // which lines are its own follows from the line that asked and, for rows, from the picture's size.
 // So a text is read beside the lines that asked.
 

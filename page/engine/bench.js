@@ -13,10 +13,10 @@ import {openedIn, stateOf} from './opening.js';
 
 /** How many strokes can be taken back. */
 export const MOST_STROKES = 400;
-const MOST_PAINTED =
-    400;  // commands to paint a document back; where it takes more it is opened anew
-const FIRST_MS =
-    40;  // what a verdict may take in the first worker: the rest is searched in the second
+// commands to paint a document back; where it takes more it is opened anew
+const MOST_PAINTED = 400;
+// what a verdict may take in the first worker: the rest is searched in the second
+const FIRST_MS = 40;
 const FIRST_SPLITS = 100;
 
 export class Bench {

@@ -167,7 +167,7 @@ export class Searches {
     const {state} = this;
     if (state.open > 0 || state.givens.size > 0)
       return this.job(
-          '', seconds, (copy, run) => this.within(run, assessed(run.engine, run.state))
+          '', seconds, (_copy, run) => this.within(run, assessed(run.engine, run.state))
       );
     this.engine ??= this.hooks.start();
     return assessed(this.engine, state).catch(() => null);

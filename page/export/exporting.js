@@ -1,11 +1,12 @@
 // Out of the page: Web Paint-by-Number's XML, PNG of the picture and of the empty puzzle, P3, .non
 // and the certificate. Each is a download.
 
-import {$, make, say} from '../base/elements.js';
+import {$, fieldOf, make, say} from '../base/elements.js';
 import {gradeLine, isGradeLine} from '../base/names.js';
 import {bareName, clamp, cleanName} from '../base/words.js';
 import {eightBitDoc, unlocked} from '../document/document.js';
 import {canvasPaper} from '../draw/papers.js';
+import {withoutUnused} from '../document/used.js';
 import {drawSmall} from '../draw/small.js';
 import {bench} from '../engine/bench.js';
 import {Judge} from '../engine/judging.js';
@@ -13,16 +14,16 @@ import {ppmTextOf} from '../formats/ppm_notes.js';
 import {writeZip} from '../formats/zip.js';
 import {keep} from '../library/keep.js';
 import {exportAs, saveDownload, saving, showFileName} from '../library/saving.js';
-import {keepChoice, keptChoice} from '../texts/language.js';
 import {phrase} from '../texts/phrase.js';
-import {actionButton, actions, addAction} from '../view/actions.js';
+import {addAction} from '../view/actions.js';
 import {openDialog} from '../view/dialogs.js';
 import {nearText, unfitText} from '../view/dress.js';
 import {gradeAtHand} from '../view/grading.js';
 import {asSeen, heard, whileOpen} from '../view/tools.js';
 import {certificateText, secondsChosen} from '../view/verdict.js';
 import {exportPath} from './animation.js';
-import {WARNINGS, puzzleOf, startPrinting} from './printing.js';
+import {WARNINGS, startPrinting} from './printing.js';
+import {authorFor, keepAuthor, startPublishing} from './publishing.js';
 import {startSharing} from './sharing.js';
 
 const MOST_SECONDS = 30;  // for what the engine says of a puzzle
@@ -49,12 +50,12 @@ const exportPicture = (sideOf, suffix) => asSeen(({state, name}) => {
   exportPng(name, canvas, suffix);
 });
 
-const exportEmpty = () => asSeen((seen) => {
-  const {state, name} = seen;
+const exportEmpty = () => asSeen(({state, name}) => {
   const near = nearText(state);
   if (near) return say(phrase('export.coloursPuzzleCannotTold', {near}), 'alarm');
+  const puzzle = withoutUnused(state, state.clues);
   return exportPng(
-      name, canvasPaper(puzzleOf(seen), pngCell(state)).pen.canvas, '-puzzle', warningText(state)
+      name, canvasPaper(puzzle, pngCell(state)).pen.canvas, '-puzzle', warningText(state)
   );
 });
 
@@ -63,13 +64,13 @@ const exportText = (form) =>
 
 const exportCertificate = () => asSeen(async ({name}) => {
   const text = await certificateText();
-  if (text) exportAs(name, 'cert', text);
+  if (text) exportAs(name, 'cert', text, `.${saving.form}`);
 });
 
 // What a site checks a puzzle by, as nonobench-audit calls it: the picture, its certificate, what
 // lies beside it, and what the engine says of it.
 const exportForSite = () => asSeen(async ({state, name}) => {
-  const doc = eightBitDoc(state);
+  const {doc} = withoutUnused(eightBitDoc(state));
   const text = await certificateText();
   if (!text) return;
   const ground = doc.colours[0].join(',');
@@ -77,11 +78,11 @@ const exportForSite = () => asSeen(async ({state, name}) => {
   const said = await judge.judge(doc);  // whose text is '' where there is none in the time
   judge.end();
   const parts = {
-    ppm: ppmTextOf(unlocked(doc)),
-    cert: text,
-    txt: said.text,
-    givens: (text.match(/^given .*\n/gm) ?? []).join(''),
-    background: ground === '255,255,255' ? '' : `${ground}\n`
+    'ppm': ppmTextOf(unlocked(doc)),
+    'ppm.cert': text,
+    'ppm.txt': said.text,
+    'ppm.givens': (text.match(/^given .*\n/gm) ?? []).join(''),
+    'ppm.background': ground === '255,255,255' ? '' : `${ground}\n`
   };
   const files = Object.entries(parts).filter(
                                          ([, part]) => part
@@ -103,7 +104,6 @@ const ABOUT_FIELDS = {
   note: phrase('export.note')
 };
 const LONG_FIELDS = ['description', 'note'];
-const AUTHOR = 'nonobench-author';  // as it was typed last
 
 // A description with a grade as its last line, in place of an earlier one.
 const withGrade =
@@ -117,8 +117,7 @@ const withGrade =
  */
 async function askAbout() {
   const {about} = bench.state;
-  const isNew = !Object.keys(ABOUT_FIELDS).some((name) => about[name]);
-  const shown = {...about, author: (isNew ? keptChoice(AUTHOR) : about.author) ?? ''};
+  const shown = {...about, author: authorFor(about)};
   const field = (name) =>
       (LONG_FIELDS.includes(name) ?
            make('textarea', {rows: 3, maxlength: '5000'}, shown[name] ?? '') :
@@ -140,9 +139,8 @@ async function askAbout() {
   const content = make(
       'div',
       {class: 'rows'},
-      ...Object.entries(fields
-      ).map(([name, input]) => make('label', {}, ABOUT_FIELDS[name], input)),
-      make('label', {}, phrase('export.nameFile'), file)
+      ...Object.entries(fields).map(([name, input]) => fieldOf(ABOUT_FIELDS[name], input)),
+      fieldOf(phrase('export.nameFile'), file)
   );
   if (grade)
     content.append(make(
@@ -160,7 +158,7 @@ async function askAbout() {
       Object.fromEntries(Object.entries(fields).map(
                                                    ([name, input]) => [name, input.value.trim()]
       ).filter(([, text]) => text));
-  if ((texts.author ?? '') !== shown.author) keepChoice(AUTHOR, texts.author ?? '');
+  if ((texts.author ?? '') !== shown.author) keepAuthor(texts.author ?? '');
   const without = (doc) =>
       Object.fromEntries(Object.entries(doc.about).filter(([name]) => !(name in ABOUT_FIELDS)));
   const name = isOwn ? bareName(file.value) : cleanName(file.value);
@@ -178,6 +176,7 @@ export function startExporting() {
       addAction({id, name, place: 'file', group: 'export', run, ...more});
   add('about', phrase('export.titleAuthor'), askAbout, {group: 'save'});
   Object.assign($('title'), {onclick: askAbout, title: phrase('export.titleAuthor')});
+  startPublishing();
   add('export-xml', phrase('export.webpbnXml'), () => exportText('xml'));
   add('export-site', phrase('export.siteZip'), exportForSite, {hint: phrase('export.siteServes')});
   startPrinting();
@@ -191,28 +190,4 @@ export function startExporting() {
   add('export-non', phrase('export.nonTwoColours'), () => exportText('non'), {
     can: () => bench.state.colours.length <= 2 || !/[b-o]/.test(bench.state.picture.join(''))
   });
-}
-
-/** The panel that saves and exports, by what the menu does. */
-export function showExportPanel() {
-  const buttons = [
-    'save',
-    'export-xml',
-    'export-site',
-    'print',
-    'share',
-    'export-empty',
-    'export-picture',
-    'certificate'
-  ].map((id) => actionButton(actions.get(id)));
-  $('out').replaceChildren(
-      make('h2', {}, phrase('export.saveExport')),
-      make('p', {class: 'group'}, ...buttons),
-      make(
-          'p',
-          {class: 'faint'},
-          make('b', {}, phrase('export.siteZip')),
-          ` ${phrase('export.siteServes')}`
-      )
-  );
 }

@@ -1,7 +1,7 @@
 // Print for books: the picture at hand, and on wish others of the library, as sheets, for the
 // browser's print or as SVG.
 
-import {$, choiceOf, make, say} from '../base/elements.js';
+import {$, choiceOf, fieldOf, make, say} from '../base/elements.js';
 import {on} from '../base/events.js';
 import {gradeName, verdictName} from '../base/names.js';
 import {clamp, opening, sizeText} from '../base/words.js';
@@ -12,14 +12,14 @@ import {writeZip} from '../formats/zip.js';
 import {keep} from '../library/keep.js';
 import {withClues} from '../library/open.js';
 import {SAVE_TYPES, download, exportAs} from '../library/saving.js';
-import {LANGUAGE, phrase} from '../texts/phrase.js';
+import {phrase} from '../texts/phrase.js';
 import {addAction} from '../view/actions.js';
 import {openDialog} from '../view/dialogs.js';
 import {nearText, pairText} from '../view/dress.js';
 import {gradeAtHand} from '../view/grading.js';
 import {eachInTurn, withProgress} from '../view/progress.js';
 import {asSeen} from '../view/tools.js';
-import {SHEET_TEXTS, entryOf} from './entries.js';
+import {SHEET_TEXTS, entryOf, inOrder} from './entries.js';
 import {GRIDS, MOST_SHEETS, PAPERS, isLarge, makersOf, partsOf} from './sheets.js';
 
 const PAPER_NAMES = {
@@ -33,6 +33,15 @@ const SHOWN = {
   letters: phrase('export.letters'),
   signs: phrase('export.signs')
 };
+const HEADS = {
+  numbers: phrase('export.itsNumber'),
+  titles: phrase('export.itsTitle')
+};
+const BOOK_ORDERS = {
+  grade: phrase('export.byGrade'),
+  name: phrase('export.byName'),
+  hand: phrase('export.asTicked')
+};
 const MARGINS = [5, 40];  // millimetres
 const LEAST_CELL = 3;     // millimetres that are filled easily
 const USUAL = {
@@ -42,7 +51,9 @@ const USUAL = {
   perSheet: 1,
   show: 'colours',
   answers: true,
-  hasGrade: false
+  hasGrade: false,
+  head: 'numbers',
+  order: 'name'
 };
 const chosen = {...USUAL};  // as it was chosen last; `show` for the open puzzle alone
 const page = {
@@ -77,6 +88,15 @@ export async function sheetsInTurn(puzzles, options, progress, take = (sheet) =>
   const sheets = await eachInTurn(makers, progress, (makeSheet) => take(makeSheet()));
   return sheets.length === makers.length ? sheets : null;
 }
+
+/** The first sheet of a puzzle as it would be printed, as a part of the page. */
+export const firstSheet = (puzzle) => drawingOf(
+    makersFor([puzzle], {...chosen, perSheet: 1, show: shownFirst(nearText(puzzle.doc))})[0]().svg
+);
+
+/** What is to be known before a puzzle leaves the page. */
+export const notesOfPuzzle = ({doc, verdict}) => [WARNINGS[verdict], nearText(doc)].filter(Boolean
+).map((text) => make('p', {class: 'wrong'}, text));
 
 // ---- the browser's print
 
@@ -116,24 +136,31 @@ function saveSvg(name, sheets, isZip) {
 
 const choice = (id, options, value) => choiceOf({id}, Object.entries(options), String(value));
 
-// Puzzles come in the order of their names, as they are called in the library: "2 cat" before "10
-// dog".
-const byName = (one, other) => one.name.localeCompare(other.name, LANGUAGE, {numeric: true});
-
 // The other pictures of the library, to be printed with this one.
 async function otherCards() {
   const {id} = keep;
   const keeper = await keep.ready();
-  return (await keeper.cards().catch(() => [])).filter((card) => card.id !== id).sort(byName);
+  return inOrder((await keeper.cards().catch(() => [])).filter((card) => card.id !== id), 'name');
 }
 
 function libraryPart(cards) {
-  const boxes = cards.map(() => make('input', {type: 'checkbox'}));
+  const ticked = new Set();  // in the order in which they were
+  const boxes = cards.map(
+      (card) =>
+          make('input', {type: 'checkbox', onchange: (event) => tick(card, event.target.checked)})
+  );
+  const tick = (card, isTicked) => {
+    ticked.delete(card);
+    if (isTicked) ticked.add(card);
+  };
   const all = make('input', {
     type: 'checkbox',
     id: 'print-all',
     onchange: () => {
-      for (const box of boxes) box.checked = all.checked;
+      boxes.forEach((box, at) => {
+        box.checked = all.checked;
+        tick(cards[at], all.checked);
+      });
     }
   });
   const facts =
@@ -149,7 +176,7 @@ function libraryPart(cards) {
       make('label', {}, all, phrase('export.all')),
       ...cards.map((card, at) => make('label', {}, boxes[at], facts(card)))
   );
-  return {part: cards.length ? part : '', chosen: () => cards.filter((_, at) => boxes[at].checked)};
+  return {part: cards.length ? part : '', chosen: () => [...ticked]};
 }
 
 function printFields(own, near) {
@@ -171,6 +198,8 @@ function printFields(own, near) {
         chosen.perSheet
     ),
     show: choice('print-show', SHOWN, shownFirst(near)),
+    head: choice('print-head', HEADS, chosen.head),
+    order: choice('print-order', BOOK_ORDERS, chosen.order),
     answers: tick('print-answers', chosen.answers),
     grade: tick('print-grade', chosen.hasGrade),
   };
@@ -178,27 +207,21 @@ function printFields(own, near) {
   const gradeText = own.grade ? phrase('export.gradeField', {word: gradeName(own.grade)}) :
                                 phrase('export.gradeWhereOneKnown');
   const rows = [
-    make('label', {}, phrase('export.sheetTitle'), fields.title),
-    make(
-        'div',
-        {class: 'group apart'},
-        make('label', {}, phrase('export.paper'), fields.paper),
-        make('label', {}, fields.wide, phrase('export.landscape')),
-        make('label', {}, phrase('export.marginMm'), fields.margin)
-    ),
-    make(
-        'div',
-        {class: 'group apart'},
-        make('label', {}, phrase('export.puzzlesSheet'), fields.perSheet),
-        make('label', {}, phrase('export.coloursShown'), fields.show)
-    ),
+    fieldOf(phrase('export.sheetTitle'), fields.title),
+    fieldOf(phrase('export.paper'), fields.paper),
+    fieldOf(phrase('export.marginMm'), fields.margin),
+    fieldOf(phrase('export.puzzlesSheet'), fields.perSheet),
+    fieldOf(phrase('export.coloursShown'), fields.show),
+    fieldOf(phrase('export.aboveEach'), fields.head),
+    fieldOf(phrase('export.bookOrder'), fields.order),
+    make('label', {}, fields.wide, phrase('export.landscape')),
     make('label', {}, fields.answers, phrase('export.solutionsEnd')),
     make('label', {}, fields.grade, gradeText)
   ];
   return {fields, rows};
 }
 
-function readFields({paper, wide, margin, perSheet, show, answers, grade}) {
+function readFields({paper, wide, margin, perSheet, show, answers, grade, head, order}) {
   const side = Number(margin.value);
   return {
     paper: paper.value in PAPERS ? paper.value : USUAL.paper,
@@ -207,7 +230,9 @@ function readFields({paper, wide, margin, perSheet, show, answers, grade}) {
     perSheet: Number(perSheet.value),
     show: show.value,
     answers: answers.checked,
-    hasGrade: grade.checked
+    hasGrade: grade.checked,
+    head: head.value,
+    order: order.value
   };
 }
 
@@ -253,14 +278,14 @@ function notesOn(puzzles, sheets, options) {
 
 // A puzzle and those of some cards, with the runs of their pictures, to foresee their sheets: what
 // is printed has the engine's clues.
-async function foreseen(own, cards) {
+async function foreseen(own, cards, order) {
   const records = await Promise.all(cards.map(
       async ({id, grade, verdict}) => ({...(await keep.keeper.record(id)), grade, verdict})
   ));
-  return [
-    own,
-    ...records.filter(({doc}) => doc).map((one) => ({...one, clues: runsOf(one.doc)}))
-  ].sort(byName);
+  return inOrder(
+      [own, ...records.filter(({doc}) => doc).map((one) => ({...one, clues: runsOf(one.doc)}))],
+      order
+  );
 }
 
 // The puzzles of some cards, opened; null where that is stopped, and, told, where one is damaged,
@@ -292,28 +317,38 @@ const printPuzzle = () => asSeen(async (seen) => {
   const {fields, rows} = printFields(own, near);
   const others = libraryPart(await otherCards());
   const notes = make('div', {id: 'print-notes', role: 'status'});
+  const preview = make('figure', {class: 'preview', 'aria-hidden': 'true'});
   const svgName = make('span');
   const titled = () =>
       ({...own, doc: {...own.doc, about: {...own.doc.about, title: fields.title.value.trim()}}});
   let [turn, tooMany] = [0, ''];
   const showNotes = async () => {
     const [ownTurn, options, cards] = [++turn, readFields(fields), others.chosen()];
-    const count = makersOf([own, ...cards].sort(byName), options).length;
+    const count = makersOf(inOrder([own, ...cards], options.order), options).length;
     tooMany =
         count > MOST_SHEETS ? phrase('export.mostSheets', {sheets: count, most: MOST_SHEETS}) : '';
     svgName.textContent =
         count > 1 || cards.length ? phrase('export.saveSvgs') : phrase('export.saveSvg');
     if (tooMany) return notes.replaceChildren(make('p', {class: 'wrong'}, tooMany));
-    const puzzles = await foreseen(titled(), cards);
+    const puzzles = await foreseen(titled(), cards, options.order);
     const goesOn = async () => {
       await new Promise((go) => setTimeout(go));
       return ownTurn === turn;
     };
-    const sheets = await sheetsInTurn(puzzles, options, {goesOn}, ({cell}) => ({cell}));
+    let isFirst = true;
+    const sheets = await sheetsInTurn(puzzles, options, {goesOn}, ({cell, svg}) => {
+      if (isFirst) preview.replaceChildren(drawingOf(svg));
+      isFirst = false;
+      return {cell};
+    });
     if (sheets) notes.replaceChildren(...notesOn(puzzles, sheets, options));
   };
-  const content =
-      make('div', {onchange: showNotes}, make('div', {class: 'rows'}, ...rows, others.part), notes);
+  const content = make(
+      'div',
+      {class: 'publishing', onchange: showNotes},
+      preview,
+      make('div', {}, make('div', {class: 'rows'}, ...rows, others.part), notes)
+  );
   await showNotes();
   const way = await openDialog({
     title: phrase('export.print'),
@@ -336,7 +371,7 @@ const printPuzzle = () => asSeen(async (seen) => {
     const opened = await openedOf(others.chosen(), options, progress);
     return opened &&
         sheetsInTurn(
-               [titled(), ...opened].sort(byName),
+               inOrder([titled(), ...opened], options.order),
                options,
                progress,
                way === 'print' ? printedOf : undefined

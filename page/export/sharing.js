@@ -1,7 +1,8 @@
 // Links: the puzzle at hand in an address, to be solved or to be changed. Nothing is sent anywhere.
 
-import {choiceOf, make, say} from '../base/elements.js';
+import {choiceOf, fieldOf, make, say} from '../base/elements.js';
 import {docOf, unlocked} from '../document/document.js';
+import {withoutUnused} from '../document/used.js';
 import {fragmentOf} from '../formats/link.js';
 import {keepChoice, keptChoice} from '../texts/language.js';
 import {phrase} from '../texts/phrase.js';
@@ -75,8 +76,10 @@ async function copied(field, base) {
 
 const share = () => asSeen(async ({state}) => {
   const doc = docOf(state);
-  const fragments =
-      {[PLAY]: await fragmentOf(unlocked(doc), PLAY), [EDIT]: await fragmentOf(doc, EDIT)};
+  const fragments = {
+    [PLAY]: await fragmentOf(withoutUnused(unlocked(doc)).doc, PLAY),
+    [EDIT]: await fragmentOf(doc, EDIT)
+  };
   const kind = choiceOf({id: 'share-kind'}, Object.entries(KINDS));
   const address = make('input', {
     type: 'url',
@@ -104,9 +107,9 @@ const share = () => asSeen(async ({state}) => {
   const content = make(
       'div',
       {class: 'rows'},
-      make('label', {}, phrase('export.linkKind'), kind),
-      make('label', {}, phrase('export.addressPage'), address),
-      make('label', {}, fieldName, field),
+      fieldOf(phrase('export.linkKind'), kind),
+      fieldOf(phrase('export.addressPage'), address),
+      make('label', {class: 'field'}, fieldName, field),
       note
   );
   openDialog({

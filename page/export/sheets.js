@@ -111,8 +111,8 @@ function drawLegend(surface, rows, {x, y, size}) {
 // legend.
 function drawEntry(surface, entry, room, {show, solution = false, scale = 1, most = MOST_CELL}) {
   const [big, small] = [5 * scale, 3.2 * scale];
-  const title = linesOf(entry.title, {width: room.width, size: big * 1.05, most: 2});
-  let top = write(surface, title, {x: room.x, y: room.y, size: big, weight: 700});
+  const head = linesOf(entry.head, {width: room.width, size: big * 1.05, most: 2});
+  let top = write(surface, head, {x: room.x, y: room.y, size: big, weight: 700});
   if (!solution)
     top = write(
         surface,
@@ -208,7 +208,7 @@ function largeSheets(entry, page, {show, texts}) {
     const width = room.width - side - 4;
     let top = write(
         surface,
-        linesOf(entry.title, {width, size: 5.2, most: 2}),
+        linesOf(entry.head, {width, size: 5.2, most: 2}),
         {x: room.x, y: room.y, size: 5, weight: 700}
     );
     if (at === 0)
@@ -245,12 +245,12 @@ function puzzleSheet(entries, page, {perSheet, show}) {
 function answerSheets(entries, page, {show, texts}) {
   const grid = entries.length === 1 ? GRIDS[1] : entries.length <= 4 ? GRIDS[4] : GRIDS[6];
   const rooms = roomsOf(page, grid);
-  const title = (entry) => ({...entry, title: texts.solution(entry.title)});
+  const titled = (entry) => ({...entry, head: texts.solution(entry)});
   const most = entries.length === 1 ? MOST_CELL : ANSWER_CELL;
   return groupsOf(entries, rooms.length).map((group) => (surface) => {
     group.forEach(
         (entry, at) =>
-            drawEntry(surface, title(entry), rooms[at], {show, solution: true, scale: 0.8, most})
+            drawEntry(surface, titled(entry), rooms[at], {show, solution: true, scale: 0.8, most})
     );
     return null;
   });
@@ -258,11 +258,11 @@ function answerSheets(entries, page, {show, texts}) {
 
 /**
  * What makes the sheets of puzzles, a call for each: `{svg, width, height, cell}` in millimetres;
- * `cell` is its smallest cell, null for solutions. An entry is {doc, clues, title, facts, legend};
- * until a sheet is made its `doc` is enough. `options`: `paper`, one of PAPERS; `isWide` for
- * landscape; `margin` in millimetres; `perSheet`, one of GRIDS; `show`, 'colours', 'letters' or
- * 'signs'; `answers`, whether solutions follow; `texts` makes the texts of `part` of a large
- * puzzle, of a `solution` and of the `foot` of a sheet.
+ * `cell` is its smallest cell, null for solutions. An entry is {doc, clues, title, number, head,
+ * facts, legend}; until a sheet is made its `doc` is enough. `options`: `paper`, one of PAPERS;
+ * `isWide` for landscape; `margin` in millimetres; `perSheet`, one of GRIDS; `show`, 'colours',
+ * 'letters' or 'signs'; `answers`, whether solutions follow; `texts` makes the texts of `part` of a
+ * large puzzle, of a `solution` and of the `foot` of a sheet.
  */
 export function makersOf(entries, options) {
   const [narrow, long] = PAPERS[options.paper];

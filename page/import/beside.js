@@ -1,6 +1,6 @@
-// What lies beside a picture and goes with it, by the names that nonobench-audit knows: NAME.givens
-// and NAME.background. NAME.cert, or NAME.proof as it was called before, goes with it too, and is
-// not checked here; nor is NAME.txt, which says what the engine said of it.
+// What lies beside a picture and goes with it: it is called as the picture, with one ending more,
+// as heart.ppm.givens and heart.ppm.background are. heart.ppm.cert goes with it too, and is not
+// checked here; nor is heart.ppm.txt, which says what the engine said of it.
 
 import {bareName} from '../base/words.js';
 import {FileFault} from '../document/limits.js';
@@ -15,50 +15,28 @@ import {docOfPuzzle, docsOfBytes} from './reading.js';
 /** Files that are taken at once, folders that are looked into for them, and puzzles in a table. */
 export const MOST_AT_ONCE = 2000;
 
-const AUDITED = /\.(p[pgbn]m|png|gif|bmp|webp|non|xml)$/i;  // pictures that nonobench-audit reads
-const OTHERS = /\.(avif|svg|jpe?g)$/i;                      // and those that this page alone reads
-const PUBLISHED = /\.(givens|background)$/i;
-const CERTIFICATES = /\.(cert|proof)$/i;
-const NUMBERED = /\.[1-9][0-9]{0,5}\.(cert|proof)$/i;  // of a puzzle in a set
+const PICTURES = /\.(p[pgbn]m|png|gif|bmp|webp|non|xml|avif|svg|jpe?g)$/i;
+const BESIDE = /\.(givens|background|cert)$/;
 
-const isAudited = (file) => !file.isDirectory && AUDITED.test(file.name);
-const isPicture = (file) => isAudited(file) || (!file.isDirectory && OTHERS.test(file.name));
-const isBeside = (file) =>
-    !file.isDirectory && (PUBLISHED.test(file.name) || CERTIFICATES.test(file.name));
+const isPicture = (file) => !file.isDirectory && PICTURES.test(file.name);
+const isBeside = (file) => !file.isDirectory && BESIDE.test(file.name);
 
-const stemOf = (name) => name.replace(/\.[^.]*$/, '');
-const withSmallEnding = (name) => name.replace(/[^.]*$/, (ending) => ending.toLowerCase());
-
-// The files that go with a picture and have an ending: those of NAME.png.givens come before those
-// of NAME.givens, unless they are those of a picture NAME.png.xml. Those of NAME.png are not those
-// of a NAME.png.jpg, which an audit does not read.
-function filesFor({named, ended, stems}, name, ending) {
-  const stem = stemOf(name);
-  const fronts = [
-    ...(stems.has(name) ? [] : [name]),
-    ...(AUDITED.test(name) || !named.has(stem) ? [stem] : [])
-  ];
-  return fronts.flatMap((front) => ended.get(`${front}.${ending}`) ?? []);
-}
-
-// A picture with what goes with it. Where several files have one name, it is not known which of
-// them go together.
-function unitOf(file, all) {
-  const [givens, background, ...others] = ['givens', 'background', 'cert', 'proof', 'txt'].map(
-      (ending) => filesFor(all, file.name, ending)
+// A picture with what goes with it. If several files have one name, it is not known which of them
+// go together.
+function unitOf(file, named) {
+  const found = ['givens', 'background', 'cert', 'txt'].map(
+      (ending) => named.get(`${file.name}.${ending}`) ?? []
   );
-  const beside = [...givens.slice(0, 1), ...background.slice(0, 1), ...others.flat()];
-  const isClear = !beside.length ||
-      [file, ...beside].every(({name,
-                                isDirectory}) => !isDirectory && all.named.get(name).length === 1);
-  return {
-    file,
-    givens: givens[0],
-    background: background[0],
-    beside,
-    fault: isClear ? '' : phrase('import.severalOfName')
-  };
+  const [[givens], [background]] = found;
+  const beside = found.flat();
+  const isClear =
+      !beside.length || [named.get(file.name), ...found].every(({length}) => length < 2);
+  return {file, givens, background, beside, fault: isClear ? '' : phrase('import.severalOfName')};
 }
+
+// A file with such an ending that is of no picture: how it would have to be called.
+const strayOf = (file) =>
+    ({file, beside: [], fault: phrase('import.callIt', {ending: BESIDE.exec(file.name)[0]})});
 
 /**
  * The files of one folder as units `{ file, givens, background, beside, fault }`: each with those
@@ -66,38 +44,21 @@ function unitOf(file, all) {
  */
 export function grouped(files, most = files.length) {
   const named = new Map();
-  for (const file of files) {
+  for (const file of files.filter(({isDirectory}) => !isDirectory)) {
     const twins = named.get(file.name) ?? [];
-    // A second one tells already that it is not known which of them go together.
-    if (twins.length < 2 && (!file.isDirectory || PUBLISHED.test(file.name)))
-      named.set(file.name, [...twins, file]);
+    // Two are enough to say that it is not known which of them go together.
+    if (twins.length < 2) named.set(file.name, [...twins, file]);
   }
-  const ended = new Map();  // by names with small endings: those that have these come first
-  for (const file of [...named.values()].flat().sort(
-           (one, other) => (one.name < other.name ? 1 : -1)
-       )) {
-    ended.set(withSmallEnding(file.name), [...(ended.get(withSmallEnding(file.name)) ?? []), file]);
-  }
-  const isOfSet = ({name}) => NUMBERED.test(name) &&
-      ['', '.xml'].some((ending) => ended.has(withSmallEnding(name.replace(NUMBERED, ending))));
-  const stems = new Set(files.filter(isAudited).map(({name}) => stemOf(name)));
   const all = files.filter(
                        (file) => !isBeside(file)
-  ).slice(0, most).map((file) => (isPicture(file) ? unitOf(file, {named, ended, stems}) : {
-                         file,
-                         beside: []
-                       }));
+  ).slice(0, most).map((file) => (isPicture(file) ? unitOf(file, named) : {file, beside: []}));
   const used = new Set(all.flatMap(({beside}) => beside));
-  const units = all.filter(({file}) => file.isDirectory || !used.has(file));
-  const alone = files.filter((file) => isBeside(file) && !used.has(file) && !isOfSet(file));
-  return [
-    ...units,
-    ...alone.map((file) => ({file, beside: [], fault: phrase('import.noPictureGoes')}))
-  ].slice(0, most);
+  const strays = files.filter((file) => isBeside(file) && !used.has(file));
+  return [...all.filter(({file}) => !used.has(file)), ...strays.map(strayOf)].slice(0, most);
 }
 
 /** Whether a certificate goes with the file of a unit. */
-export const hasCertificate = ({beside}) => beside.some(({name}) => CERTIFICATES.test(name));
+export const hasCertificate = ({beside}) => beside.some(({name}) => name.endsWith('.cert'));
 
 async function bytesOf(file) {
   mustHold(file, MOST_BYTES_READ);
@@ -125,7 +86,7 @@ async function naming(file, work) {
  * file is none.
  */
 export async function docsOfUnit(
-    {file, fault, givens, background}, imageDocs = async (...image) => null, progress = null
+    {file, fault, givens, background}, imageDocs = async (..._image) => null, progress = null
 ) {
   if (fault) throw new FileFault(fault);
   const read =

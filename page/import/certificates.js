@@ -84,9 +84,7 @@ export async function takeCertificate(certificate, name) {
       (progress) => checkedCertificate(certificate, doc, progress.held(startEngine()))
   );
   if (!bench.state || !sameDoc(doc, bench.state)) return false;
-  const unsay =
-      say(`${proves ? '✓ ' : ''}${phrase('import.certificateSays', {name, text})}`,
-          proves ? '' : 'alarm');
+  const unsay = say(phrase('import.certificateSays', {name, text}), proves ? '' : 'alarm');
   const end = on('shown', (state) => {
     if (sameDoc(doc, state)) return;
     end();

@@ -18,8 +18,8 @@ const NOT_DRAWN = {
 const MOST_SVG = 1 << 24;    // bytes
 const LONGEST = 20000;       // ms that the browser may take for a drawing
 const MOST_DECODED = 100e6;  // pixels of an image file, which the browser unpacks
-const MOST_SIDE =
-    2048;  // pixels a side that a larger one is made smaller to: more than the dialog works on
+// pixels a side that a larger one is made smaller to: more than the dialog works on
+const MOST_SIDE = 2048;
 
 /** Refuses a file of more than `most` bytes. */
 export function mustHold({size}, most) {

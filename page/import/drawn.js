@@ -4,8 +4,8 @@
 /** The elements that a drawing may come to. */
 export const MOST_DRAWN = 20000;
 
-const MOST_ATTRIBUTES =
-    100;  // of an element: to look at each takes the browser a time like the square of their number
+// of an element: to look at each takes the browser a time like the square of their number
+const MOST_ATTRIBUTES = 100;
 
 const GRADIENTS = new Set(['linearGradient', 'radialGradient']);
 const TARGETS = new Set(['pattern', 'marker', 'mask', 'clipPath', 'filter']
@@ -14,8 +14,9 @@ const HIDDEN = new Set(
     [...GRADIENTS, ...TARGETS, 'defs', 'symbol', 'style', 'script', 'title', 'desc', 'metadata']
 );
 const STYLED = /^(fill|stroke|mask|filter|clip-path|marker(-\w+)?)$/;
-const ONCE = /^(href|mask|filter|clip-path)$/;  // for an element as a whole: what is inside
-                                                // inherits the others
+const CLASSES = /^\s*(\.[\w-]+[\s,]*)+$/;
+// for an element as a whole: what is inside inherits the others
+const ONCE = /^(href|mask|filter|clip-path)$/;
 
 // What stands outside of comments, one that has no end among them.
 const uncommented = (text) =>
@@ -45,6 +46,10 @@ function addressesIn(text) {
   });
 }
 
+// The classes that a selector names, if it names nothing else, or '*'.
+const classesOf = (selector) =>
+    (CLASSES.test(selector) ? new Set(selector.match(/[\w-]+/g)) : ['*']);
+
 // Lists of the addresses in the rules of style sheets by the classes that they are for, or '*' for
 // any other selector.
 function rulesOf(sheets) {
@@ -55,11 +60,9 @@ function rulesOf(sheets) {
         parts[at + 1] === '{' ? parts[at].slice(0, parts[at].lastIndexOf(';') + 1) : parts[at]
     );
     const selector = parts[at - 1] === '{' ? parts[at - 2].split(';').at(-1) : '';
-    for (const name of / ^\s * (\.[\w - ] + [\s,
-         ]*) + $ /.test(selector) ?
-             new Set(selector.match(/[\w-]+/g)) :
-             ['*'])
-      if (found.length) rules.set(name, rules.get(name) ?? []).get(name).push(found);
+    for (const name of found.length ? classesOf(selector) : []) {
+      rules.set(name, rules.get(name) ?? []).get(name).push(found);
+    }
   }
   return rules;
 }

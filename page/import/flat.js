@@ -11,10 +11,11 @@ const FLAT_COLOURS = 32;  // so many of the most used colours have ..
 const FLAT_PART = 0.4;    // .. this part of the pixels at least, the most used colour aside
 const SAME_FAR = 0.02;    // in Oklab: nearer colours look the same
 const MOST_GROUPS = 400;
-const GUARDED = 0.01;  // of the area: such a colour goes last. Half of what is promised, since only
-                       // some pixels are looked at
-const WIDE = 0.04;     // of the area: a single colour that has so much is no smoothed edge
-const SPECK = 0.002;   // of the area: less of a colour is none
+// of the area: such a colour goes last. Half of what is promised, since only some pixels are looked
+// at
+const GUARDED = 0.01;
+const WIDE = 0.04;          // of the area: a single colour that has so much is no smoothed edge
+const SPECK = 0.002;        // of the area: less of a colour is none
 const EDGE_WEIGHT = 1 / 8;  // of a pixel whose colour lies between those beside it
 const DETOUR = 1.25;        // how much longer the way over such a colour is, at most
 

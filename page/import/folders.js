@@ -28,7 +28,7 @@ const fileOf = (entry) =>
  * one have nothing to do with those in another.
  */
 export async function unitsIn(entries, files, progress = {
-  goesOn: async (text) => true
+  goesOn: async (_text) => true
 }) {
   const units = grouped(
       files.filter((file, at) => file && !entries[at]?.isDirectory && isShown(file)), MOST_AT_ONCE

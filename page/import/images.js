@@ -6,6 +6,7 @@ import {LIGHT_OF, sampleOf} from '../document/colours.js';
 import {LETTERS, MOST_CELLS, MOST_COLOURS} from '../document/limits.js';
 import {isBlankByte} from '../formats/ppm.js';
 
+const COMMENT = 35;  // what begins one in a picture of Netpbm's
 const bytesBegin =
     (bytes, text, from = 0
     ) => [...text].every((sign, at) => bytes[from + at] === sign.charCodeAt(0));
@@ -42,6 +43,9 @@ function isSvg(bytes) {
  */
 export function kindOfFile(bytes) {
   if (bytesBegin(bytes, 'P3') || bytesBegin(bytes, 'P6')) return 'ppm';
+  if (['P1', 'P4'].some((magic) => bytesBegin(bytes, magic)) &&
+      (isBlankByte(bytes[2]) || bytes[2] === COMMENT))
+    return 'ppm';
   if (bytesBegin(bytes, '\u0089PNG\r\n\u001a\n')) return 'png';
   if (bytes[0] === 0xff && bytes[1] === 0xd8 && bytes[2] === 0xff) return 'jpeg';
   if (bytesBegin(bytes, 'GIF8')) return 'gif';

@@ -11,6 +11,7 @@ import {openDoc} from '../library/open.js';
 import {phrase} from '../texts/phrase.js';
 import {sayWith} from '../view/actions.js';
 import {openDialog} from '../view/dialogs.js';
+import {keepMade} from './adjusting.js';
 import {Alike} from './alike.js';
 import {contactSheet, sizesFor} from './contacts.js';
 import {Source} from './cropping.js';
@@ -44,8 +45,8 @@ const LABELS = {
   contrast: phrase('import.contrast'),
   specks: phrase('import.removeSpecksUpSo'),
 };
-const MOST_WORKED =
-    480;  // pixels a side that the dialog works on; a larger part is made smaller first
+// pixels a side that the dialog works on; a larger part is made smaller first
+const MOST_WORKED = 480;
 const MOST_MIDDLE = 960;  // pixels a side of a copy of the image
 const SLOW_MS = 40;       // where the last preview took longer, a sketch comes first
 const SKETCH_REST = 150;  // milliseconds without a change before the preview follows a sketch
@@ -88,9 +89,10 @@ class Importing {
     this.inks = new Inks(() => this.change('inks'), (by) => {
       this.colours.value = Number(this.colours.value) + by;
     });
-    this.judging = new Judging((found) => {
+    this.judged = (found) => {
       this.verdict.textContent = judgedText(found);
-    });
+    };
+    this.judging = new Judging(this.judged);
     this.alike = new Alike(() => this.inks.merge());
     this.source = new Source(image, this.middle.canvas, shownSide(), {
       take: (part) => this.take(part),
@@ -373,6 +375,14 @@ class Importing {
     this.inks.element.hidden = isTwo;
   }
 
+  /** Shows the fields as they were left, and judges what they give. */
+  resume() {
+    this.isSheet = false;
+    if (!this.judging.judge.isEnded) return;
+    this.judging = new Judging(this.judged);
+    this.change();
+  }
+
   /** The document as the fields have it now, also where the next frame has not come yet. */
   finished() {
     if (this.isWaiting) this.show();
@@ -498,20 +508,36 @@ export async function takesPalette(file) {
   return true;
 }
 
-/** Lets the user make a puzzle of an image; answers whether one was opened. */
-export async function importImage(image, name) {
-  const importing = new Importing(image);
+// Asks for what is to be made of an image: its document, or null.
+async function docAsked(importing, title, button) {
   atHand = importing;
+  importing.resume();
   const doc = await openDialog({
-    title: phrase('import.turnImageIntoPuzzle', {name}),
+    title,
     content: importing.content,
     wide: true,
-    buttons: [{name: phrase('import.createPuzzle'), value: () => importing.finished(), main: true}]
+    buttons: [{name: button, value: () => importing.finished(), main: true}]
   });
   importing.judging.end();
   if (atHand === importing) atHand = null;
-  if (importing.isSheet) return cutSheet(image, importing.canvas, name);
+  return doc;
+}
+
+/** Lets the user make a puzzle of an image; answers whether one was opened. */
+export async function importImage(image, name) {
+  const importing = new Importing(image);
+  const doc = await docAsked(
+      importing, phrase('import.turnImageIntoPuzzle', {name}), phrase('import.createPuzzle')
+  );
+  const cut = () => cutSheet(image, importing.canvas, name);
+  if (importing.isSheet) return cut();
   if (!doc || !(await openDoc(doc, {name, isSaved: false}))) return false;
+  keepMade(async () => {
+    const other = await docAsked(
+        importing, phrase('import.adjustTitle', {name}), phrase('import.replacePicture')
+    );
+    return importing.isSheet ? void cut() : other;
+  });
   sayWith(
       phrase('import.madeFromImageVerdict', {name}), '', 'trim'
   );  // where it has an empty margin

@@ -13,8 +13,8 @@ import {phrase} from '../texts/phrase.js';
 import {docOfImage, kindOfFile} from './images.js';
 import {docByItself} from './proposing.js';
 
-const MOST_SEARCH =
-    10000;  // milliseconds, for the picture of clues that stand alone among several files
+// milliseconds, for the picture of clues that stand alone among several files
+const MOST_SEARCH = 10000;
 
 export const NOT_READ = phrase('import.noPictureNoPuzzle');
 

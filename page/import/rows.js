@@ -5,6 +5,7 @@ import {make} from '../base/elements.js';
 import {gradeName, gradePlace, verdictName, verdictPlace} from '../base/names.js';
 import {sizeText} from '../base/words.js';
 import {nameOf} from '../document/names.js';
+import {iconOf} from '../draw/icons.js';
 import {smallPicture} from '../draw/small.js';
 import {gradeIn} from '../engine/assessing.js';
 import {faultText} from '../library/open.js';
@@ -88,10 +89,19 @@ export class Row {
         [this.name, ...Array(HEADS.length - 1).fill(Infinity)];
   }
 
+  // The cells of a picture's row: the verdict has its icon, and its colour by `data-verdict`.
+  cellsOf(texts) {
+    return texts.map((text, at) => {
+      const isVerdict = HEADS[at + 1] === phrase('import.verdict') && verdictPlace(this.word) >= 0;
+      return isVerdict ? make('td', {'data-verdict': this.word}, iconOf(this.word), ` ${text}`) :
+                         make('td', {}, text);
+    });
+  }
+
   show() {
     const {doc} = this;
     const [name, size, ...others] = this.texts;
-    const cells = doc ? [make('td', {}, size), ...others.map((text) => make('td', {}, text))] :
+    const cells = doc ? this.cellsOf([size, ...others]) :
                         [make('td', {colspan: HEADS.length - 1, class: 'wrong'}, size)];
     const picture = make('span', {class: 'thumb'}, ...(doc ? [smallPicture(doc, THUMB)] : []));
     this.element.replaceChildren(make('th', {scope: 'row'}, picture, name), ...cells);

@@ -5,6 +5,7 @@
 import {make, say} from '../base/elements.js';
 import {tell} from '../base/events.js';
 import {valueText} from '../base/words.js';
+import {iconOf} from '../draw/icons.js';
 import {Judge, Mender} from '../engine/judging.js';
 import {keep} from '../library/keep.js';
 import {faultText, openDoc} from '../library/open.js';
@@ -57,13 +58,20 @@ function headsOf(rows) {
   const order = (one, other) => (typeof one === 'string' ? compare(one, other) : one - other || 0);
   const heads = HEADS.map(
       (text, at) => make(
-          'th', {scope: 'col'}, make('button', {type: 'button', onclick: () => sort(at)}, text)
+          'th',
+          {scope: 'col'},
+          make('button', {type: 'button', onclick: () => sort(at)}, text, iconOf('sort'))
       )
   );
   const sort = (at) => {
     const way = heads[at].getAttribute('aria-sort') === 'ascending' ? -1 : 1;
-    for (const head of heads) head.removeAttribute('aria-sort');
+    const show = (head, icon) => head.querySelector('svg').replaceWith(iconOf(icon));
+    for (const head of heads) {
+      head.removeAttribute('aria-sort');
+      show(head, 'sort');
+    }
     heads[at].setAttribute('aria-sort', way > 0 ? 'ascending' : 'descending');
+    show(heads[at], way > 0 ? 'above' : 'below');
     rows[0].element.parentElement.append(
         ...[...rows].sort(
                         (one, other) => way * order(one.keys[at], other.keys[at])

@@ -5,8 +5,8 @@ import {oklabOf} from '../document/colours.js';
 import {isTransparent} from './images.js';
 
 export const EXACT = 0xffffff;  // which bits of a colour count
-export const ALIKE =
-    0xf8f8f8;  // colours whose samples differ in the last three bits alone count as one
+// colours whose samples differ in the last three bits alone count as one
+export const ALIKE = 0xf8f8f8;
 
 export const keyOf = (data, at) => (data[at] << 16) | (data[at + 1] << 8) | data[at + 2];
 const tripleOfKey = (key) => [key >> 16, (key >> 8) & 255, key & 255];

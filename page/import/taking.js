@@ -28,7 +28,7 @@ import {NOT_READ, aboutNon, docOfNon, isNonText, readPpmFile, readXmlFile} from 
 import {takeSeveral} from './several.js';
 
 const TAKEN_KINDS =
-    '.ppm,.pnm,.non,.xml,.givens,.background,.cert,.proof,.zip,.gpl,.pal,.hex,.png,.jpg,.jpeg,.gif,.webp,.bmp,.avif,.svg,image/*';
+    '.ppm,.pnm,.pbm,.non,.xml,.givens,.background,.cert,.zip,.gpl,.pal,.hex,.png,.jpg,.jpeg,.gif,.webp,.bmp,.avif,.svg,image/*';
 const MOST_ARCHIVE = 1 << 30;  // bytes
 
 /** Takes a file (or a blob that was pasted); `handle` is the browser's own for writing it again. */
@@ -38,8 +38,12 @@ export async function takeFile(file, handle = null) {
     const head = new Uint8Array(await file.slice(0, HEAD).arrayBuffer());
     const kind = kindOfFile(head);
     mustHold(file, kind === 'zip' ? MOST_ARCHIVE : IMAGES.has(kind) ? MOST_IMAGE : MOST_BYTES_READ);
-    if (IMAGES.has(kind))
-      return await importImage(await imageOfFile(file, head, kind), bareName(file.name));
+    if (IMAGES.has(kind)) {
+      say(phrase('import.opening', {name: bareName(file.name)}));  // a large one takes a while
+      const image = await imageOfFile(file, head, kind);
+      say('');
+      return await importImage(image, bareName(file.name));
+    }
     return await takeBytes(new Uint8Array(await file.arrayBuffer()), file, handle);
   } catch (fault) {
     say(phrase('import.couldNotOpened', {
@@ -193,13 +197,14 @@ export function hearFiles() {
       );
       const units = await unitsIn(folders, files, progress).catch(() => null);
       progress.end();
-      if (!units) return say(phrase('import.folderNotRead'), 'alarm');
-      if (progress.isStopped) return false;
+      if (!units) say(phrase('import.folderNotRead'), 'alarm');
+      if (!units || progress.isStopped) return;
       await closeDialogs();
-      return takeSeveral(units, imageDocs);
+      await takeSeveral(units, imageDocs);
+      return;
     }
-    const late =
-        new Promise((go) => setTimeout(go, 1000, null));  // the file itself is at hand already
+    // the file itself is at hand already
+    const late = new Promise((go) => setTimeout(go, 1000, null));
     const handle = await Promise.race([late, items[0].getAsFileSystemHandle?.().catch(() => null)]);
     takeDropped(files, handle?.kind === 'file' ? handle : null);
   });

@@ -8,8 +8,9 @@ import {reasonOf} from './shelf.js';
 
 const RECORD = 'work:';
 const CARD = 'card:';
-const REST = 50;  // milliseconds between a stroke and its record: it is drawn first, and of quick
-                  // strokes the last one counts
+// milliseconds between a stroke and its record: it is drawn first, and of quick strokes the last
+// one counts
+const REST = 50;
 
 /**
  * Keeps records on a shelf: of each document the last one, one write at a time. `said`

@@ -2,10 +2,11 @@
 // has one, else as a download. A new document is saved as Web Paint-by-Number's XML, which holds
 // all of it; what was opened as PPM or .non is saved as that.
 
-import {$, choiceOf, make, say} from '../base/elements.js';
+import {$, choiceOf, fieldOf, make, say} from '../base/elements.js';
 import {behindFrame, on} from '../base/events.js';
 import {bareName} from '../base/words.js';
 import {docOf, eightBitDoc, isLocked, unlocked} from '../document/document.js';
+import {hasUnused, withoutUnused} from '../document/used.js';
 import {bench} from '../engine/bench.js';
 import {leftOutOfPpm, ppmTextOf} from '../formats/ppm_notes.js';
 import {leavesOut, webpbnText} from '../formats/webpbn.js';
@@ -59,14 +60,19 @@ const nonHead = ({title, author, copyright}
          .map(([word, text]) => `${word} "${text.replaceAll('"', '\'').replace(/\s+/g, ' ')}"\n`)
          .join('');
 
+// A document whose title is the file's name where it has none.
+const titled = (doc, name) =>
+    (doc.about.title ? doc : {...doc, about: {...doc.about, title: name}});
+
 /**
- * The text of what is seen in one of the forms that hold it, for others without what is locked; or
- * null, told, where it has none.
+ * The text of what is seen in one of the forms that hold it, for others without what is locked and
+ * without colours that no cell has; or null, told, where it has none.
  */
-async function textAs(form, {state, term}, forOthers = false) {
-  const doc = forOthers ? unlocked(docOf(state)) : state;
+async function textAs(form, {state, term, name}, forOthers = false) {
+  const {doc, clues} = forOthers ? withoutUnused(unlocked(docOf(state)), state.clues) :
+                                   {doc: state, clues: state.clues};
   if (form === 'ppm') return ppmTextOf(eightBitDoc(doc));
-  if (form === 'xml') return webpbnText(doc, state.clues);
+  if (form === 'xml') return webpbnText(forOthers ? titled(doc, name) : doc, clues);
   const [answer] = bench.term === term ? await bench.ask('write non').catch(() => []) : [];
   if (answer?.kind === 'text') return nonHead(state.about) + answer.text;
   say(answer?.name === 'TwoColoursOnly' ?
@@ -130,7 +136,8 @@ function saved({state, term}, file, form, {more = '', forOthers = false} = {}) {
   const lost = leftOut(form, state);
   const locked = forOthers && form !== 'non' && isLocked(state) ? phrase('library.locked') : '';
   const without = [lost, locked].filter(Boolean).join(', ');
-  if (!without && bench.term === term) bench.saved(docOf(state));
+  const isWhole = !without && !(forOthers && hasUnused(state));
+  if (isWhole && bench.term === term) bench.saved(docOf(state));
   keep.now();
   showFileName();
   say(without ? phrase('library.savedWithoutXmlKeeps', {file, without}) + more :
@@ -190,8 +197,8 @@ export const saveAs = () => asSeen(async (seen) => {
   const content = make(
       'div',
       {class: 'rows'},
-      make('label', {}, phrase('view.name'), name),
-      make('label', {}, phrase('library.form'), form)
+      fieldOf(phrase('view.name'), name),
+      fieldOf(phrase('library.form'), form)
   );
   if (!(await whileOpen(openDialog({
         title: phrase('library.saveAs'),

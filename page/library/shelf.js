@@ -6,8 +6,8 @@
 // not open goes there as soon as it does.
 
 const SHELF_NAME = 'nonobench';
-const SHELF_WAIT = 15000;  // milliseconds for a database that does not open: on a busy machine the
-                           // first opening takes seconds
+// milliseconds for a database that does not open: on a busy machine the first opening takes seconds
+const SHELF_WAIT = 15000;
 
 const settledRequest = (request) => new Promise((resolve, reject) => {
   request.onsuccess = () => resolve(request.result);

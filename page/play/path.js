@@ -5,40 +5,48 @@
 import {phrase} from '../texts/phrase.js';
 import {searches, secondsChosen} from '../view/verdict.js';
 import {marksOf} from './crossing.js';
+import {reasoned} from './looks.js';
 
 /**
- * The path: steps with what is known of each cell after so many of them. A step is `{ line, round,
- * cells: [{ index, letter }] }`; of a guess the line is null.
+ * The path: steps with what is known of each cell after so many of them. A step is a look as
+ * looks.js has it, `{ line, round, falls: [{ index, letter }], stands, premises() }`; of a guess
+ * the line is null.
  */
 export class Walk {
   constructor(state, steps = []) {
     this.state = state;
     this.steps = steps;
     this.isWhole = false;
-    this.falls = new Map(steps.flatMap(({round, cells}) => cells.map(({index}) => [index, round])));
+    this.falls = new Map(steps.flatMap(({round, falls}) => falls.map(({index}) => [index, round])));
   }
 
   /** The letters of the cells after so many steps, '?' where several are left. */
   letters(count) {
     const letters = marksOf(this.state).flat();
-    for (const {cells} of this.steps.slice(0, count))
-      for (const {index, letter} of cells) letters[index] = letter;
+    for (const {falls} of this.steps.slice(0, count))
+      for (const {index, letter} of falls) letters[index] = letter;
     return letters;
   }
 
   /**
    * The number of the hardest step, counted from 1: the first guess; else of those that settle
-   * cells the one with fewest of them for each block of its clue.
+   * cells of a line whose blocks do not all stand yet, the first that needs most of it.
    */
   get hardest() {
     const guess = this.steps.findIndex(({line}) => line === null);
     if (guess >= 0) return guess + 1;
-    const {rows, columns} = this.state.clues;
-    const clues = [...rows, ...columns];
-    const ease = ({line, cells}) =>
-        (cells.length ? cells.length / (1 + clues[line].length) : Infinity);
-    const eases = this.steps.map(ease);
-    return eases.indexOf(Math.min(...eases)) + 1;
+    const steps = [...this.steps.keys()].filter(
+        (at) => this.steps[at].falls.length && !this.steps[at].stands
+    );
+    const known = new Map(steps.map((at) => [at, this.steps[at].known]));
+    steps.sort((one, other) => known.get(other) - known.get(one) || one - other);
+    let [hardest, most] = [0, -1];
+    for (const at of steps) {
+      if (known.get(at) < most) break;  // it needs no more than is known
+      const needs = this.steps[at].premises(Math.max(0, most))?.length ?? -1;
+      if (needs > most || (needs === most && at < hardest)) [hardest, most] = [at, needs];
+    }
+    return hardest + 1;
   }
 
   /**
@@ -51,13 +59,16 @@ export class Walk {
   }
 }
 
-// Steps of the path of a copy's picture with its givens, without the cells that are known already.
-async function looksOf(copy, known) {
+// Steps of the path of a copy's picture with its givens and guesses, without the cells that are
+// known already.
+async function looksOf(copy, state, {known, guesses}) {
   const [{looks, open}] = await copy.say('path');
-  const steps = looks.map(
-      ({line, round, falls}) => ({line, round, cells: falls.filter(({index}) => !known.has(index))})
-  );
-  return {open, steps: known.size ? steps.filter(({cells}) => cells.length) : steps};
+  const letters = marksOf(state).flat();
+  for (const {index, letter} of guesses) letters[index] = letter;
+  const fresh =
+      looks.map((look) => ({...look, falls: look.falls.filter(({index}) => !known.has(index))}));
+  const steps = reasoned(state, letters, fresh);
+  return {open, steps: known.size ? steps.filter(({falls}) => falls.length) : steps};
 }
 
 // A cell that is guessed in a copy's picture, which gives it from here on.
@@ -69,7 +80,10 @@ async function guessed(copy, {picture, columns}) {
   return {
     line: null,
     round: -1,
-    cells: [{index: (row - 1) * columns + column - 1, letter: picture[row - 1][column - 1]}]
+    falls: [{index: (row - 1) * columns + column - 1, letter: picture[row - 1][column - 1]}],
+    stands: false,
+    known: 0,
+    premises: () => []
   };
 }
 
@@ -80,19 +94,22 @@ async function guessed(copy, {picture, columns}) {
 export async function pathOf(state, told = null) {
   return searches.job(phrase('play.walkThrough'), secondsChosen(), async (copy) => {
     const known = new Set();
+    const guesses = [];
     let walk = new Walk(state);
     const add = (steps) => {
-      for (const {cells} of steps)
-        for (const {index} of cells) known.add(index);
+      for (const {falls} of steps)
+        for (const {index} of falls) known.add(index);
       walk = copy.found = new Walk(state, [...walk.steps, ...steps]);
     };
     for (;;) {
-      const {open, steps} = await looksOf(copy, known);
+      const {open, steps} = await looksOf(copy, state, {known, guesses});
       add(steps);
       walk.isWhole = open === 0 || state.verdict.word !== 'unique';
       told?.(walk);
       if (walk.isWhole) return walk;
-      add([await guessed(copy, state)]);
+      const guess = await guessed(copy, state);
+      guesses.push(...guess.falls);
+      add([guess]);
     }
   });
 }

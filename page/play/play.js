@@ -3,24 +3,31 @@
 
 import {$, buttonOf, make, spanOf, withoutGestures} from '../base/elements.js';
 import {on, tell} from '../base/events.js';
+import {gradeName} from '../base/names.js';
 import {markRadio} from '../base/radios.js';
-import {clamp} from '../base/words.js';
+import {clamp, sizeText} from '../base/words.js';
 import {sameDoc} from '../document/document.js';
 import {LETTERS, MOST_CELLS} from '../document/limits.js';
 import {lineCells} from '../document/shapes.js';
+import {usedLetters} from '../document/used.js';
+import {iconOf, withIcon} from '../draw/icons.js';
+import {drawSmall} from '../draw/small.js';
 import {bench} from '../engine/bench.js';
 import {phrase} from '../texts/phrase.js';
-import {addAction} from '../view/actions.js';
+import {addAction, makeMenu, runAction} from '../view/actions.js';
 import {openDialog} from '../view/dialogs.js';
 import {dress, inkName} from '../view/dress.js';
+import {gradeAtHand} from '../view/grading.js';
 import {selection} from '../view/select.js';
 import {asSeen} from '../view/tools.js';
 import {searches} from '../view/verdict.js';
 import {isMet, marksOf} from './crossing.js';
-import {nextHint, wrongMarks} from './hints.js';
+import {hintedCells, nextHint, wrongMarks} from './hints.js';
 import {keepMarks, keptMarks} from './kept.js';
 import {drawPlay, drawStroke, fitPlay, movePlay, refitPlay, zoomPlay} from './playdraw.js';
 import {endWalk, isWalking, startWalk, walkBar, walkKey} from './walking.js';
+
+const SOLVED_SIDE = 1200;  // pixels of the picture that was solved
 
 export const play = {
   state: null,
@@ -37,7 +44,8 @@ export const play = {
   isSolved: false,
   shown: null,
   heat: null,
-  hint: null
+  hint: null,
+  hinted: new Set()
 };
 
 // Whether the marks of the last time are those of this puzzle: what was marked before the room was
@@ -59,11 +67,12 @@ export async function openPlay({isAlone = false} = {}) {
   if (!isGoing)
     Object.assign(play, {
       marks: kept ?? marksOf(state),
-      letter: state.colours.length > 1 ? 'a' : '.',
+      letter: usedLetters(state)[0] ?? '.',
       past: [],
       future: [],
       at: {row: 0, col: 0},
-      isSolved: false
+      isSolved: false,
+      hinted: new Set()
     });
   Object.assign(play, {state, wrong: new Set(), drag: null, shown: null, heat: null, hint: null});
   searches.stop();
@@ -73,6 +82,7 @@ export async function openPlay({isAlone = false} = {}) {
       walkBar(),
       make('p', {id: 'play-said', role: 'status'}),
       playBoard(),
+      solvedPart(),
       make(
           'div', {id: 'play-palette', role: 'radiogroup', 'aria-label': phrase('view.colourLabel')}
       ),
@@ -117,38 +127,84 @@ export const playSays = (text) => {
   $('play-said').textContent = text;
 };
 
+// The header: the way back, what the puzzle is, and three icons; the last opens a menu of the rest.
 function playBar() {
+  const {state} = play;
+  const grade = gradeAtHand();
+  const icon = (id, name, run, as) => withIcon(buttonOf(id, '', run), as, name);
+  const list = make('div', {
+    id: 'play-menu',
+    class: 'menu',
+    role: 'menu',
+    popover: 'auto',
+    'aria-label': phrase('view.more')
+  });
+  const item = (id, name, run, as, title = null) => {
+    const button = buttonOf(id, iconOf(as), run, {role: 'menuitem', tabindex: '-1', title});
+    button.append(make('span', {}, name));
+    button.addEventListener('click', () => list.hidePopover());
+    return button;
+  };
+  const items = [
+    item('play-redo', phrase('view.redo'), () => playTurn('future', 'past'), 'redo'),
+    item('play-check', phrase('view.check'), checkPlay, 'check', phrase('play.marksCellsNotYour')),
+    item('play-clear', phrase('play.startOver'), clearPlay, 'again'),
+    item('play-walk', phrase('play.walkThrough'), startWalk, 'walk'),
+    item('play-larger', phrase('view.larger'), () => zoomPlay(1), 'plus'),
+    item('play-smaller', phrase('view.smaller'), () => zoomPlay(-1), 'minus'),
+    item('play-help', phrase('view.help'), helpPlay, 'help')
+  ];
+  list.append(...items);
+  const hint = icon('play-hint', phrase('play.hint'), hintPlay, 'hint');
+  hint.title = phrase('play.lineTellsMoreAgain');
+  const does = icon('play-do', phrase('play.doIt'), doHint, 'tick');
+  does.title = phrase('play.marksWhatHint');
+  const more = withIcon(buttonOf('play-more', '', () => {}), 'more', phrase('view.more'));
+  makeMenu(more, list, () => items);
   return make(
       'div',
-      {class: 'group', id: 'play-bar'},
-      make('h2', {}, phrase('play.play')),
-      buttonOf('play-undo', phrase('view.undo'), () => playTurn('past', 'future'), {
-        'data-short': '↶',
-        'aria-label': phrase('view.undo')
-      }),
-      buttonOf('play-redo', phrase('view.redo'), () => playTurn('future', 'past'), {
-        'data-short': '↷',
-        'aria-label': phrase('view.redo')
-      }),
-      buttonOf(
-          'play-check', phrase('view.check'), checkPlay, {title: phrase('play.marksCellsNotYour')}
-      ),
-      buttonOf(
-          'play-hint', phrase('play.hint'), hintPlay, {title: phrase('play.lineTellsMoreAgain')}
-      ),
-      buttonOf('play-clear', phrase('play.startOver'), clearPlay),
-      buttonOf('play-walk', phrase('play.walkThrough'), startWalk),
-      buttonOf('play-smaller', '−', () => zoomPlay(-1), {'aria-label': phrase('view.smaller')}),
-      buttonOf('play-larger', '+', () => zoomPlay(1), {'aria-label': phrase('view.larger')}),
-      buttonOf('play-help', '?', helpPlay, {
-        'aria-label': phrase('view.help'),
-        title: phrase('view.help')
-      }),
-      buttonOf('play-close', phrase('play.backPicture'), () => $('play-room').close(), {
-        'data-short': '←',
-        'aria-label': phrase('play.backPicture')
-      })
+      {id: 'play-bar'},
+      icon('play-close', phrase('play.backPicture'), () => $('play-room').close(), 'back'),
+      make('h2', {}, sizeText(state)),
+      make('span', {id: 'play-grade', class: 'faint'}, grade ? gradeName(grade.word) : ''),
+      icon('play-undo', phrase('view.undo'), () => playTurn('past', 'future'), 'undo'),
+      hint,
+      does,
+      more,
+      list
   );
+}
+
+// What comes when it is solved: the picture, as large as there is room, whose it is, and where to
+// go on.
+function solvedPart() {
+  return make(
+      'section',
+      {id: 'play-solved', hidden: true, 'aria-label': phrase('play.solved')},
+      make('canvas', {id: 'solved-picture', role: 'img', 'aria-label': phrase('main.picture')}),
+      make('h2', {id: 'solved-title'}),
+      make('p', {id: 'solved-author', class: 'faint'}),
+      make(
+          'div',
+          {class: 'group'},
+          buttonOf('solved-walk', phrase('play.walkThrough'), startWalk, {class: 'main'}),
+          buttonOf('solved-share', phrase('export.shareLink'), () => runAction('share'))
+      )
+  );
+}
+
+/** Shows what comes when it is solved, or takes it away. */
+export function showSolved() {
+  const isShown = play.isSolved && !isWalking();
+  if ($('play-solved').hidden === !isShown) return;
+  $('play-solved').hidden = !isShown;
+  $('play-room').classList.toggle('solved', isShown);
+  if (!isShown) return;
+  const picture = play.marks.map((row) => row.map((mark) => (mark === '?' ? '.' : mark)).join(''));
+  drawSmall($('solved-picture'), {...play.state, picture}, SOLVED_SIDE);
+  const {title, author} = play.state.about;
+  $('solved-title').textContent = title || phrase('play.solved');
+  $('solved-author').textContent = author ? phrase('export.by', {author}) : '';
 }
 
 function helpPlay() {
@@ -186,27 +242,26 @@ function playBoard() {
 
 // Colours, the mark of a background cell, and the wipe.
 function playPalette() {
-  const {colours} = play.state;
-  const choices = [...LETTERS.slice(1, colours.length), '.', '?'];
+  const choices = [...usedLetters(play.state), '.', '?'];
   $('play-palette').replaceChildren(...choices.map((letter) => {
     const name = letter === '.' ? phrase('view.background') :
         letter === '?'          ? phrase('play.wipe') :
                                   inkName(play.state, letter);
-    const sign = {'.': '×', '?': '⌫'}[letter] ?? letter;
+    const icon = {'.': 'close', '?': 'wipe'}[letter];
     const button = buttonOf(
         null,
-        sign,
+        icon ? iconOf(icon) : letter,
         () => choosePlay(letter),
         {role: 'radio', 'data-letter': letter, 'aria-label': name, title: name}
     );
-    if (letter !== '?') dress(button, letter, play.state);
+    if (!icon) dress(button, letter, play.state);
     return button;
   }));
   choosePlay(play.letter);
 }
 
 function choosePlay(letter) {
-  if (letter !== '?' && LETTERS.indexOf(letter) >= play.state.colours.length) return;
+  if (!['.', '?', ...usedLetters(play.state)].includes(letter)) return;
   play.letter = letter;
   markRadio($('play-palette'), ({dataset}) => dataset.letter === letter);
 }
@@ -265,6 +320,7 @@ export function afterPlay() {
   } else if (!solved)
     playSays('');
   play.isSolved = solved;
+  showSolved();
   keepMarks(play.state, play.marks, solved);
   const {title, author} = play.state.about;
   $('play-credit').textContent =
@@ -297,8 +353,16 @@ async function hintPlay() {
   playSays(hint.text);
 }
 
+// Marks what the hint at hand tells, as one stroke.
+async function doHint() {
+  const hint = await hintedCells();
+  if (!hint || !$('play-field')) return;
+  keepPlay(hint.cells.flatMap(({index, letter}) => markPlay([index], letter)));
+  if (!play.isSolved) playSays(hint.text);
+}
+
 function clearPlay() {
-  play.wrong = new Set();
+  Object.assign(play, {wrong: new Set(), hinted: new Set()});
   const stroke = markPlay(
       play.marks.flatMap((row, at) => row.map((_, col) => at * play.state.columns + col)), '?'
   );
@@ -442,7 +506,7 @@ function playKey(event) {
   } else if (event.key.length === 1 && LETTERS.includes(event.key))
     choosePlay(event.key);
   else if (/^[0-9]$/.test(event.key))
-    choosePlay(LETTERS[Number(event.key)]);
+    choosePlay(['.', ...usedLetters(play.state)][Number(event.key)]);
   else
     return undefined;
   return event.preventDefault();

@@ -3,9 +3,10 @@
 
 import {$} from '../base/elements.js';
 import {clamp} from '../base/words.js';
-import {contrastOf, eightBits, lightness} from '../document/colours.js';
+import {eightBits} from '../document/colours.js';
 import {LETTERS} from '../document/limits.js';
-import {coloursOf, drawClue, drawGiven, drawRules, edges, wholeFrame} from '../draw/board.js';
+import {coloursTooNear} from '../document/near.js';
+import {coloursOf, drawClue, drawGiven, drawRules, edges, linesOn, wholeFrame} from '../draw/board.js';
 import {Sprites} from '../draw/sprites.js';
 import {CanvasSurface} from '../draw/surface.js';
 import {phrase} from '../texts/phrase.js';
@@ -15,9 +16,6 @@ import {play, playColumn} from './play.js';
 import {drawShown} from './shown.js';
 import {isWalking} from './walking.js';
 
-// Cells without a mark: in the dark a grey from which both black and white stand out.
-const [BLANK, DARK_BLANK] = [[255, 254, 251], [118, 122, 128]];
-const LEAST_CONTRAST = 3;
 
 // The clues as they were drawn last: by axis how, and by line which blocks are crossed off.
 /** @type {any} */
@@ -117,8 +115,8 @@ const fieldSize = () => [play.side * play.state.columns + 2, play.side * play.st
 /** @returns {any} */
 function playLook() {
   const style = getComputedStyle($('play-room'));
-  const isDark = lightness((style.backgroundColor.match(/[0-9.]+/g) ?? [255, 255, 255]
-                 ).slice(0, 3).map(Number)) < 128;
+  const blank =
+      (style.backgroundColor.match(/[0-9.]+/g) ?? [255, 255, 255]).slice(0, 3).map(Number);
   const ink = (name) => style.getPropertyValue(`--${name}`).trim() || '#888';
   const wide = play.side > 10 ? 2 : 1;
   return {
@@ -130,8 +128,7 @@ function playLook() {
     border: wide,
     isWhole: true,
     under: false,
-    light: ink('light'),
-    heavy: ink('heavy'),
+    ...linesOn(blank),
     ink: style.color,
     faint: ink('faint'),
     style: 'chip',
@@ -141,7 +138,7 @@ function playLook() {
     font: playFont(),
     least: 6,
     weight: 600,
-    blank: isDark ? DARK_BLANK : BLANK,
+    blank,
     alarm: '#c8321e',
     here: '#14609c',
   };
@@ -218,12 +215,13 @@ function drawPlayField() {
   const look = playLook();
   const surface = playSurface('play-field', ...fieldSize());
   const frame = playFrame();
-  const isPlain = play.isSolved && !isWalking();  // what is solved is a picture: without signs of
-                                                  // marks, and without the cursor of a pointer
+  // what is solved is a picture: without signs of marks, and without the cursor of a pointer
+  const isPlain = play.isSolved && !isWalking();
   surface.rect(0, 0, ...fieldSize(), `rgb(${look.blank.join(' ')})`);
   drawRules(surface, look, frame);
   play.marks.forEach((row, at) => {
     const [y, high] = edges(look, at, at + 1, frame.y, side, state.rows);
+    if (play.heat) return;  // on empty cells
     row.forEach((mark, col) => {
       const [x, wide] = edges(look, col, col + 1, frame.x, side, state.columns);
       drawPlayCell(surface, look, {
@@ -238,36 +236,29 @@ function drawPlayField() {
     });
   });
   const {pen} = surface;
-  drawShown(pen);
+  drawShown(pen, look.ink);
   if (isPlain && !pen.canvas.matches(':focus-visible')) return;
   pen.strokeStyle = look.here;
   pen.lineWidth = 2.5;
   pen.strokeRect(frame.x + play.at.col * side, frame.y + play.at.row * side, side, side);
 }
 
-// A mark in its colour. Unless `isPlain`, background has a cross, and a colour close to that of
-// cells without a mark an edge.
+// A mark in its colour; background is a cross. Unless `isPlain`, a colour that hardly differs from
+// an empty cell has an edge.
 function drawPlayMark(surface, look, {mark, isPlain, x, y, wide, high}) {
   const {colours, maxval} = play.state;
   const at = LETTERS.indexOf(mark);
+  if (mark === '.' && !isPlain) return drawCross(surface, look, x + wide / 2, y + high / 2, high);
   surface.rect(x, y, wide, high, look.fills[at]);
-  if (isPlain) return;
-  if (mark === '.')
-    drawCross(surface, look, x + wide / 2, y + high / 2, high);
-  else if (contrastOf(eightBits(colours[at], maxval), look.blank) < LEAST_CONTRAST) {
-    surface.chip(x, y, wide, high, {
-      fill: look.fills[at],
-      edge: look.inks[at],
-      weight: Math.max(1, high * 0.07)
-    });
-  }
+  if (isPlain || !coloursTooNear(eightBits(colours[at], maxval), look.blank)) return undefined;
+  return surface.chip(x, y, wide, high, {fill: look.fills[at], edge: look.heavy, weight: 1});
 }
 
 function drawCross(surface, look, x, y, side) {
   const arm = Math.max(1.5, side * 0.15);
   for (const way of [-1, 1])
     surface.line(
-        x - arm, y - way * arm, x + arm, y + way * arm, look.inks[0], Math.max(1, side * 0.06)
+        x - arm, y - way * arm, x + arm, y + way * arm, look.faint, Math.max(1, side * 0.06)
     );
 }
 

@@ -6,7 +6,7 @@ import {play} from './play.js';
 
 const NEW = '#d9730d';
 const USED = '#14609c';
-const GUESS = 'rgb(120 20 80 / 60%)';
+const GUESS = 'rgb(160 40 110 / 45%)';
 
 /** The tint of a round: from light to dark; what needs a guess (-1) apart. */
 export const heatOf = (round, most) =>
@@ -26,7 +26,7 @@ function ring(pen, index, ink, breadth, dash) {
   );
 }
 
-function drawHeat(pen, rounds) {
+function drawHeat(pen, rounds, ink) {
   const {side, state} = play;
   const most = Math.max(1, ...rounds);
   rounds.forEach((round, index) => {
@@ -36,9 +36,7 @@ function drawHeat(pen, rounds) {
         (index % state.columns) * side, Math.floor(index / state.columns) * side, side, side
     );
     if (side < 16) return;
-    pen.fillStyle = '#fff';
-    pen.strokeStyle = '#000';
-    pen.lineWidth = 2;
+    pen.fillStyle = ink;
     pen.font = `600 ${Math.floor(side * 0.5)}px system-ui, sans-serif`;
     pen.textAlign = 'center';
     pen.textBaseline = 'middle';
@@ -46,19 +44,17 @@ function drawHeat(pen, rounds) {
       (index % state.columns) * side + side / 2,
       Math.floor(index / state.columns) * side + side / 2 + 1
     ];
-    const text = round < 0 ? '?' : String(round);
-    pen.strokeText(text, ...at);
-    pen.fillText(text, ...at);
+    pen.fillText(round < 0 ? '?' : String(round), ...at);
   });
 }
 
 /**
  * Draws what `play.shown` has: `line` (rows first, or null), `cells`, `premises`; and `play.heat`,
- * the round of each cell.
+ * the round of each cell, with its number in an ink.
  */
-export function drawShown(pen) {
+export function drawShown(pen, ink) {
   const {shown, heat, side, state} = play;
-  if (heat) drawHeat(pen, heat);
+  if (heat) drawHeat(pen, heat, ink);
   if (!shown) return;
   if (shown.line !== null) {
     const across = shown.line < state.rows;

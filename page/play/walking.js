@@ -3,14 +3,15 @@
 
 import {$, buttonOf, make} from '../base/elements.js';
 import {clamp} from '../base/words.js';
+import {withIcon} from '../draw/icons.js';
 import {phrase} from '../texts/phrase.js';
 import {runAction} from '../view/actions.js';
 import {confirmDialog} from '../view/dialogs.js';
 import {inkName} from '../view/dress.js';
-import {knownIn, stepText} from './hints.js';
 import {Walk, pathOf} from './path.js';
-import {play, playSays} from './play.js';
+import {play, playSays, showSolved} from './play.js';
 import {drawPlay, refitPlay} from './playdraw.js';
+import {stepText} from './telling.js';
 
 const PACE = 900;  // milliseconds a step
 
@@ -27,14 +28,14 @@ const walking = {
 /** Whether the path is shown in place of the player's marks. */
 export const isWalking = () => walking.walk !== null;
 
+const iconButton = (id, icon, name, run) => withIcon(buttonOf(id, '', run), icon, name);
+
 /** The bar of the path, which is hidden until it is walked. */
 export function walkBar() {
   return make(
       'div',
       {id: 'walk-bar', class: 'group', hidden: true},
-      buttonOf(
-          'walk-back', '◂', () => goTo(walking.at - 1), {'aria-label': phrase('play.stepBack')}
-      ),
+      iconButton('walk-back', 'earlier', phrase('play.stepBack'), () => goTo(walking.at - 1)),
       make('input', {
         type: 'range',
         id: 'walk-at',
@@ -43,8 +44,8 @@ export function walkBar() {
         'aria-label': phrase('play.step'),
         oninput: (event) => goTo(Number(event.target.value))
       }),
-      buttonOf('walk-on', '▸', () => goTo(walking.at + 1), {'aria-label': phrase('play.stepOn')}),
-      buttonOf('walk-play', phrase('play.playSteps'), turnPlaying),
+      iconButton('walk-on', 'later', phrase('play.stepOn'), () => goTo(walking.at + 1)),
+      iconButton('walk-play', 'play', phrase('play.playSteps'), turnPlaying),
       buttonOf('walk-hardest', phrase('play.hardestStep'), () => goTo(walking.walk.hardest)),
       make(
           'label',
@@ -80,6 +81,7 @@ export async function startWalk() {
   const {state} = play;
   const isShown = () => $('walk-bar') !== null && !$('walk-bar').hidden && play.state === state;
   Object.assign(walking, {walk: new Walk(state), isKnown: false});
+  showSolved();
   goTo(0);
   $('walk-at').focus();
   const show = (found) => {
@@ -93,10 +95,10 @@ export async function startWalk() {
 
 // ---- steps
 
-function textOf({line, cells, premises}) {
-  if (line !== null) return stepText({line, cells: cells.map(({index}) => index), premises});
+function textOf(step) {
   const {state} = play;
-  const [{index, letter}] = cells;
+  if (step.line !== null) return stepText(state, step);
+  const [{index, letter}] = step.falls;
   const colour = letter === '.' ? phrase('view.background') : inkName(state, letter);
   return phrase('play.suppose', {
     place: phrase(
@@ -115,10 +117,10 @@ function goTo(at) {
   const {columns, rows} = play.state;
   play.marks =
       Array.from({length: rows}, (_, row) => letters.slice(row * columns, (row + 1) * columns));
-  const step = walking.at > 0 ? {...walk.steps[walking.at - 1], premises: []} : null;
-  if (step && step.line !== null) step.premises = knownIn(step.line, walk.letters(walking.at - 1));
+  const step = walking.at > 0 ? walk.steps[walking.at - 1] : null;
+  const places = (cells) => cells.map(({index}) => index);
   play.shown =
-      step && {line: step.line, cells: step.cells.map(({index}) => index), premises: step.premises};
+      step && {line: step.line, cells: places(step.falls), premises: places(step.premises())};
   walking.told = step ? `: ${textOf(step)}` : phrase('play.emptyPuzzle');
   showLength();
   if (walking.isKnown && walking.at === walk.steps.length) stopPlaying();
@@ -142,14 +144,14 @@ function showLength() {
 function turnPlaying() {
   if (walking.timer) return stopPlaying();
   if (walking.at === walking.walk?.steps.length) goTo(0);
-  $('walk-play').textContent = phrase('play.pause');
+  withIcon($('walk-play'), 'pause', phrase('play.pause'));
   walking.timer = setInterval(() => goTo(walking.at + 1), PACE);
 }
 
 function stopPlaying() {
   clearInterval(walking.timer);
   walking.timer = 0;
-  if ($('walk-play')) $('walk-play').textContent = phrase('play.playSteps');
+  if ($('walk-play')) withIcon($('walk-play'), 'play', phrase('play.playSteps'));
 }
 
 function showHeat() {
@@ -169,6 +171,7 @@ export function endWalk() {
   refitPlay(false);
   $('walk-heat').checked = false;
   playSays('');
+  showSolved();
   drawPlay();
   $('play-field').focus({preventScroll: true});
 }

@@ -12,7 +12,7 @@ const MOVES = 60;        // moves tried behind each of them: those that came nea
 const ENOUGH = 24;       // repaints found
 const FOR_GIVEN = 0.25;  // of the time
 
-// The bounds of docs/FORMATS.md. They rank candidates alone: the engine says which word each has.
+// The bounds of docs/SESSION.md. They rank candidates alone: the engine says which word each has.
 const BOUNDS = {
   easy: {rounds: 2, wait: 8},
   medium: {rounds: 4, wait: 15}

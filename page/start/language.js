@@ -15,8 +15,8 @@ import {setDown} from '../view/select.js';
 import {searches} from '../view/verdict.js';
 
 const OPEN = 'nonobench-open';  // what is open again in this tab
-const FILE =
-    'file:';  // the file that it is saved to; only a database keeps the browser's handle of it
+// the file that it is saved to; only a database keeps the browser's handle of it
+const FILE = 'file:';
 
 // Keeps what is open, also where nothing was painted yet; gives its id, or null where the browser
 // does not keep it.

@@ -3,8 +3,9 @@
 
 import {$, choiceOf, make, say} from '../base/elements.js';
 import {on} from '../base/events.js';
-import {VERDICT_SIGNS, gradeName, verdictName} from '../base/names.js';
+import {gradeName, verdictName} from '../base/names.js';
 import {cleanName, opening, sizeText} from '../base/words.js';
+import {withIcon} from '../draw/icons.js';
 import {smallPicture} from '../draw/small.js';
 import {bench} from '../engine/bench.js';
 import {exportAll} from '../import/archives.js';
@@ -60,7 +61,8 @@ const view = {
   goBack: () => {},
   listed: Promise.resolve()
 };
-const FIRST = 60;  // tiles at once; more are shown on wish
+const TILE_SIDE = 144;  // pixels of a picture
+const FIRST = 60;       // tiles at once; more are shown on wish
 
 // ---- the card on the start screen
 
@@ -174,8 +176,7 @@ function tileOf(card) {
   const isOpen = card.id === keep.id && bench.state !== null;
   const facts = [
     sizeText(card.doc),
-    VERDICT_SIGNS[card.verdict] &&
-        `${VERDICT_SIGNS[card.verdict]}\u00a0${verdictName(card.verdict)}`,
+    card.verdict && verdictName(card.verdict),
     card.grade && gradeName(card.grade)
   ].filter(Boolean).join(', ');
   const when = [
@@ -189,7 +190,7 @@ function tileOf(card) {
       make(
           'button',
           {type: 'button', class: 'kept', 'data-id': card.id, onclick: open},
-          smallPicture(card.doc),
+          smallPicture(card.doc, TILE_SIDE),
           make(
               'span',
               {},
@@ -207,15 +208,9 @@ function menuOf(card, isOpen) {
   const list = make('div', {class: 'menu', role: 'menu', popover: 'auto', 'aria-label': card.name});
   const button = make(
       'button',
-      {
-        type: 'button',
-        class: 'quiet',
-        'aria-haspopup': 'menu',
-        'aria-label': phrase('start.moreFor', {name: card.name}),
-        title: phrase('view.more')
-      },
-      '⋯'
+      {type: 'button', class: 'quiet', 'aria-haspopup': 'menu', title: phrase('view.more')}
   );
+  withIcon(button, 'more', phrase('start.moreFor', {name: card.name}));
   const item = (name, run) => make(
       'button',
       {
@@ -294,7 +289,7 @@ async function makeRoom() {
   const cards = (await keep.keeper.cards())
                     .filter((card) => card.id !== keep.id)
                     .sort((a, b) => Number(b.isSaved) - Number(a.isSaved) || b.size - a.size);
-  const boxes = cards.map((card) => make('input', {type: 'checkbox'}));
+  const boxes = cards.map(() => make('input', {type: 'checkbox'}));
   const rows = cards.map(
       (card, at) => make(
           'label',

@@ -1,6 +1,6 @@
 // The start screen: a new picture, a file, what the browser keeps, and examples.
 
-import {$, hasFingers, make} from '../base/elements.js';
+import {$, fieldOf, hasFingers, make, svgPart} from '../base/elements.js';
 import {on} from '../base/events.js';
 import {capital, freeName, opening, sizeText} from '../base/words.js';
 import {emptyDoc} from '../document/document.js';
@@ -17,8 +17,45 @@ import {phrase} from '../texts/phrase.js';
 import {addAction} from '../view/actions.js';
 import {useColour, useTool} from '../view/tools.js';
 import {libraryListed, makeLibrary, startLibrary} from './library.js';
+import {loopOf} from './loop.js';
 
 const START_SIZE = [20, 15];
+/** @type {[number, number][]} */
+const SIZES = [[10, 10], [15, 15], [20, 15], [20, 20], [30, 30], [40, 30]];
+const TILE_CELL = 1.2;  // points of a cell in the drawing of a size
+
+// A size as its grid, five cells a field; a press begins a picture.
+function sizeTile([columns, rows], run) {
+  const [wide, high] = [columns, rows].map((cells) => cells * TILE_CELL);
+  const lines = [];
+  for (let at = 5; at < columns; at += 5) lines.push(`M${at * TILE_CELL} 0v${high}`);
+  for (let at = 5; at < rows; at += 5) lines.push(`M0 ${at * TILE_CELL}h${wide}`);
+  const drawing = svgPart(
+      'svg',
+      {
+        viewBox: `-1 -1 ${wide + 2} ${high + 2}`,
+        width: wide + 2,
+        height: high + 2,
+        'aria-hidden': 'true'
+      },
+      svgPart('path', {
+        d: `M0 0h${wide}v${high}h-${wide}z${lines.join('')}`,
+        fill: 'none',
+        stroke: 'currentColor'
+      })
+  );
+  return make(
+      'button',
+      {
+        type: 'button',
+        class: 'size',
+        'data-size': `${columns} ${rows}`,
+        onclick: () => run(columns, rows)
+      },
+      drawing,
+      make('span', {}, sizeText({columns, rows}))
+  );
+}
 
 function newCard() {
   const columns = make('input', {
@@ -38,27 +75,24 @@ function newCard() {
     required: true
   });
   const ground = make('input', {type: 'color', id: 'new-background', value: '#ffffff'});
+  const begin = async (wide, high) => {
+    const background = [1, 3, 5].map((at) => parseInt(ground.value.slice(at, at + 2), 16));
+    if (await openDoc(emptyDoc(wide, high, background), {name: await newName(), isBlank: true}))
+      beginPainting();
+  };
   const form = make(
       'form',
-      {class: 'card', 'aria-labelledby': 'new-title'},
+      {class: 'card', id: 'new-card', 'aria-labelledby': 'new-title'},
       make('h2', {id: 'new-title'}, phrase('start.new')),
-      make(
-          'p',
-          {class: 'fields'},
-          make('label', {}, phrase('view.columns'), columns),
-          make('label', {}, phrase('view.rows'), rows),
-          make('label', {}, capital(phrase('view.background')), ground)
-      ),
+      make('div', {class: 'sizes'}, ...SIZES.map((size) => sizeTile(size, begin))),
+      fieldOf(phrase('view.columns'), columns),
+      fieldOf(phrase('view.rows'), rows),
+      fieldOf(capital(phrase('view.background')), ground),
       make('button', {type: 'submit', class: 'main', id: 'new-go'}, phrase('start.startPainting'))
   );
-  form.addEventListener('submit', async (event) => {
+  form.addEventListener('submit', (event) => {
     event.preventDefault();
-    const background = [1, 3, 5].map((at) => parseInt(ground.value.slice(at, at + 2), 16));
-    if (await openDoc(
-            emptyDoc(Number(columns.value), Number(rows.value), background),
-            {name: await newName(), isBlank: true}
-        ))
-      beginPainting();
+    begin(Number(columns.value), Number(rows.value));
   });
   return form;
 }
@@ -76,23 +110,28 @@ async function newName() {
   return freeName(phrase('start.newName'), new Map(cards.map(({name}) => [name.toLowerCase(), 1])));
 }
 
-function openCard() {
+function openCard(example) {
   return make(
       'section',
-      {class: 'card', 'aria-labelledby': 'open-title'},
-      make('h2', {id: 'open-title'}, phrase('start.openPicture')),
+      {class: 'card', id: 'open-card', 'aria-labelledby': 'open-title'},
+      example ? loopOf(example) : '',
+      make(
+          'h2',
+          {id: 'open-title'},
+          hasFingers() ? phrase('start.openPicture') : phrase('start.dropPicture')
+      ),
       make('p', {}, hasFingers() ? phrase('start.tapToChoose') : phrase('start.dropFileHerePaste')),
-      make('p', {class: 'faint'}, phrase('start.pngJpegGifWebp')),
       make(
           'button',
           {type: 'button', class: 'main', id: 'open-go', onclick: () => chooseFile()},
           phrase('start.chooseFile')
-      )
+      ),
+      make('p', {class: 'faint'}, phrase('start.pngJpegGifWebp'))
   );
 }
 
-const LISTED = 1000;      // milliseconds until the library is not waited for
-const EXAMPLE_SIDE = 96;  // pixels
+const LISTED = 1000;       // milliseconds until the library is not waited for
+const EXAMPLE_SIDE = 144;  // pixels
 const EXAMPLES = {
   balloon: phrase('start.balloon'),
   heart: phrase('start.heart'),
@@ -101,8 +140,12 @@ const EXAMPLES = {
 };
 const MEND = 'balloon';  // it has two solutions
 
+/** The document of an example that the page has. */
+export const docOfExample = (source) =>
+    docOfImage(readPpm(new TextEncoder().encode(source.textContent.trimStart())));
+
 function exampleItem(source) {
-  const doc = docOfImage(readPpm(new TextEncoder().encode(source.textContent.trimStart())));
+  const doc = docOfExample(source);
   if (!doc) return '';
   const {example} = source.dataset;
   const name = EXAMPLES[example] ?? example;
@@ -141,8 +184,8 @@ async function comesLater(element, is) {
 
 /** Shows the start screen, over what is open. */
 export function showStart() {
-  const examples =
-      [...document.querySelectorAll('script[data-example]')].map(exampleItem).filter(Boolean);
+  const sources = [...document.querySelectorAll('script[data-example]')];
+  const examples = sources.map(exampleItem).filter(Boolean);
   const shown = make(
       'section',
       {id: 'examples', class: 'card wide', 'aria-labelledby': 'examples-title', hidden: true},
@@ -162,13 +205,20 @@ export function showStart() {
   $('start').replaceChildren(
       make('p', {class: 'lead'}, phrase('start.drawPictureOpenOne')),
       ...back,
-      make('div', {class: 'cards'}, newCard(), openCard(), makeLibrary(hideStart), shown)
+      make(
+          'div',
+          {class: 'cards'},
+          openCard(sources.length ? docOfExample(sources[0]) : null),
+          newCard(),
+          makeLibrary(hideStart),
+          shown
+      )
   );
   comesLater(shown, examples.length > 0);
   $('start').hidden = false;
   $('work').hidden = true;
   document.body.classList.add('starting');
-  $('new-go').focus();
+  $('new-go').focus({preventScroll: true});
 }
 
 function hideStart() {

@@ -54,8 +54,8 @@ function plurals() {
 }
 
 let digits = null;
-const UNGROUPED =
-    1000;  // below it, whole numbers have the same digits in each language of the page
+// below it, whole numbers have the same digits in each language of the page
+const UNGROUPED = 1000;
 
 /** A number as the language writes it. */
 export const number = (count) =>

@@ -3,6 +3,8 @@
 
 import {$, make, say} from '../base/elements.js';
 import {on} from '../base/events.js';
+import {clamp} from '../base/words.js';
+import {iconOf} from '../draw/icons.js';
 import {bench} from '../engine/bench.js';
 import {phrase} from '../texts/phrase.js';
 
@@ -74,7 +76,10 @@ export function runAction(id, event) {
 /** Says a text, with a button for an action where it can be done; the next stroke takes it back. */
 export function sayWith(text, kind, id) {
   const {name, can} = actions.get(id);
-  if (!can()) return say(text, kind);
+  if (!can()) {
+    say(text, kind);
+    return;
+  }
   const unsay = say(text, kind, {name, run: () => runAction(id)});
   const end = on('stroke', () => {
     end();
@@ -152,7 +157,46 @@ function actionOfKey(event) {
   return null;
 }
 
+const GAP = 4;     // pixels between a button and what it opens
+const WIDE = 264;  // pixels that a menu is wide, or so
 const FREE_ITEM = 'button:not([aria-disabled="true"])';
+
+/**
+ * Makes a button open a list of entries, filled anew by `itemsOf` each time; arrows go through it.
+ */
+export function makeMenu(button, list, itemsOf) {
+  button.setAttribute('aria-haspopup', 'menu');
+  button.setAttribute('aria-expanded', 'false');
+  button.setAttribute('popovertarget', list.id);
+  list.addEventListener('beforetoggle', (event) => {
+    button.setAttribute('aria-expanded', event.newState === 'open');
+    if (event.newState !== 'open') return;
+    list.replaceChildren(...itemsOf());
+    const {left, bottom} = seenOf(button).getBoundingClientRect();  // its own size is not known yet
+    list.style.left = `${Math.max(GAP, Math.min(left, innerWidth - WIDE))}px`;
+    list.style.top = `${bottom + GAP}px`;
+  });
+  list.addEventListener('toggle', (event) => {
+    if (event.newState !== 'open') return;
+    placeBeside(list, button);
+    list.querySelector(FREE_ITEM)?.focus();
+  });
+  list.addEventListener('keydown', (event) => menuKey(event, list, button));
+}
+
+// On a phone Help opens from beside the verdict.
+const seenOf = (button) => (button.getClientRects().length ? button : $('help-open'));
+
+/** Places what opens below its button, or above it, within the window. */
+export function placeBeside(list, button) {
+  const box = seenOf(button).getBoundingClientRect();
+  const {offsetWidth: wide, offsetHeight: high} = list;
+  const left = document.documentElement.dir === 'rtl' ? box.right - wide : box.left;
+  const below = box.bottom + GAP + high <= innerHeight;
+  const top = below ? box.bottom + GAP : Math.max(GAP, box.top - GAP - high);
+  list.style.left = `${clamp(left, GAP, Math.max(GAP, innerWidth - wide - GAP))}px`;
+  list.style.top = `${below ? top : Math.min(top, innerHeight - high - GAP)}px`;
+}
 
 /** Makes the menus of the header, filled anew each time that one is opened. */
 export function makeMenus() {
@@ -161,24 +205,13 @@ export function makeMenus() {
         'div',
         {id: `menu-${place}`, role: 'menu', class: 'menu', 'aria-label': name, popover: 'auto'}
     );
-    const button = make(
-        'button',
-        {type: 'button', 'aria-haspopup': 'menu', popovertarget: list.id, 'aria-expanded': 'false'},
-        name
-    );
-    list.addEventListener('beforetoggle', (event) => {
-      button.setAttribute('aria-expanded', event.newState === 'open');
-      if (event.newState === 'open') fillMenu(list, place, button);
-    });
-    list.addEventListener('toggle', (event) => {
-      if (event.newState === 'open') list.querySelector(FREE_ITEM)?.focus();
-    });
-    list.addEventListener('keydown', (event) => menuKey(event, list, button));
+    const button = make('button', {type: 'button'}, name);
+    makeMenu(button, list, () => itemsOf(list, place));
     $('menus').append(button, list);
   }
 }
 
-function fillMenu(list, place, button) {
+function itemsOf(list, place) {
   const items = [];
   let group = null;
   for (const action of actions.values()) {
@@ -190,7 +223,7 @@ function fillMenu(list, place, button) {
       );
     ({group} = action);
     const item = actionButton(action, {role: 'menuitem', tabindex: '-1'});
-    if (action.isOn()) item.textContent += ' ✓';
+    if (action.isOn()) item.append(iconOf('tick'));
     const free = isFree(action);
     if (!free)
       item.setAttribute(
@@ -206,11 +239,7 @@ function fillMenu(list, place, button) {
     });
     items.push(item);
   }
-  list.replaceChildren(...items);
-  const box = (button.offsetParent ? button : $('help-open')
-  ).getBoundingClientRect();  // on a phone Help opens from beside the verdict
-  list.style.left = `${Math.max(4, Math.min(box.left, innerWidth - 260))}px`;
-  list.style.top = `${box.bottom + 4}px`;
+  return items;
 }
 
 /** Hears the keys of a menu: arrows go to its entries, Escape back to its button. */

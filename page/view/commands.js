@@ -343,6 +343,13 @@ export function addViewActions() {
   view({id: 'zoom-out', name: phrase('view.smaller'), key: '-', run: () => zoomBy(-1)});
   view({id: 'fit', name: phrase('view.fit'), key: 'z', run: () => sheet.fit()});
   view({
+    id: 'bare',
+    name: phrase('view.pictureOnly'),
+    key: 'Shift+P P',
+    run: () => sheet.turnBare(),
+    isOn: () => sheet.geometry.isBare
+  });
+  view({
     id: 'letters',
     name: phrase('view.lettersCellsClues'),
     key: 'Ctrl+L',

@@ -18,7 +18,7 @@ function showCut() {
   const hasNumbers = sheet.state !== null && strips.hasNumbers(sheet);
   const count = hasNumbers ? strips.countCut(sheet) : 0;
   const [width, height] = [at.originX / at.scale, at.originY / at.scale];
-  note.hidden = !sheet.state || width < LEAST_ROOM || (hasNumbers && !count);
+  note.hidden = !sheet.state || at.isBare || width < LEAST_ROOM || (hasNumbers && !count);
   if (note.hidden) return;
   note.textContent =
       hasNumbers ? phrase('view.cluesCut', {clues: count}) : phrase('view.zoomForNumbers');

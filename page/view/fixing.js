@@ -1,6 +1,7 @@
-// Fix it, below the picture: proposals of cells to repaint, to give, or some of both, until the
-// picture needs no guessing or is at least the only solution, or has a grade that is aimed for.
-// They are seen side by side, place by place; one click takes one, and one undo takes it back.
+// Fix it, Easier and Harder, beside the picture: proposals of cells to repaint, to give, or some of
+// both, until the picture needs no guessing or is at least the only solution, or has a grade that
+// is aimed for. They are seen side by side, place by place; one click takes one, and one undo takes
+// it back.
 
 import {$, buttonOf, choiceOf, make, say} from '../base/elements.js';
 import {on, tell} from '../base/events.js';
@@ -9,11 +10,14 @@ import {number} from '../base/words.js';
 import {placeOf, sameBenchPart} from '../document/document.js';
 import {LETTERS} from '../document/limits.js';
 import {cellsThatDiffer} from '../document/shapes.js';
+import {withIcon} from '../draw/icons.js';
 import {sheet} from '../draw/sheet.js';
 import {bench} from '../engine/bench.js';
+import {adviceOf} from '../repair/advice.js';
 import {LINE_WORDS} from '../repair/aiming.js';
 import {phrase} from '../texts/phrase.js';
-import {boardOf, limitChoices, showLocks} from './locking.js';
+import {actions, runAction} from './actions.js';
+import {boardOf, keptSymmetry, limitChoices, showLocks} from './locking.js';
 import {listProposals, placeText} from './proposals.js';
 import {bySize, ideas, keyOf, mirrorOf, seenOf, sizeOf} from './ranking.js';
 import {setDown} from './select.js';
@@ -21,8 +25,7 @@ import {searches, secondsChosen, verdictView} from './verdict.js';
 
 const GOALS = [['lines', phrase('view.noGuessing')], ['unique', phrase('view.oneSolution')]];
 const GRADES = LINE_WORDS.map((word) => [word, phrase('view.aGrade', {grade: gradeName(word)})]);
-const UNCHOSEN = '';  // a grade that is to be chosen
-const isGrade = (goal) => goal === UNCHOSEN || LINE_WORDS.includes(goal);
+const isGrade = (goal) => LINE_WORDS.includes(goal);
 const MOST_SHOWN = 24;
 const MOST_OF_ALL = 4;  // proposals for all places together, where each is mended by itself
 const MOST_MIXED = 2;
@@ -39,7 +42,13 @@ const SPARE = 5;         // seconds that a search in the worker has left to end 
 const howToSee = () =>
     (matchMedia('(hover: hover)').matches ? phrase('view.pointToSee') : phrase('view.holdToSee'));
 const LONGER = phrase('view.longerSearchTimeMay');
-const LOOSE = phrase('view.pictureTooLooseBolder');
+const ADVICE = {
+  dithered: phrase('view.adviceDithered'),
+  thin: phrase('view.pictureTooLooseBolder'),
+  sparse: phrase('view.adviceSparse'),
+  colours: phrase('view.adviceColours'),
+  areas: phrase('view.adviceAreas')
+};
 
 // What was found, for which picture (`of`) and goal (`by`), and what was asked for. It stays while
 // a proposal is tried: an undo shows the list again.
@@ -69,10 +78,10 @@ export const canFix = () =>
 /** Whether the panel has something to do: a grade may be aimed for by any picture. */
 export const mayFix = () => canFix() || (bench.state !== null && isGrade(fixing.goal));
 
-/** Opens the panel for what is to be mended, or for a grade that is to be chosen. */
-export function openFix(isAim = false) {
-  if (isAim)
-    fixing.goal = UNCHOSEN;
+/** Opens the panel, and looks for what mends the picture, or for what gives it a grade. */
+export function openFix(word = null) {
+  if (word)
+    fixing.goal = word;
   else if (bench.state.verdict.word === 'unique' || isGrade(fixing.goal))
     fixing.goal = 'lines';
   if (!mayFix()) return;
@@ -81,44 +90,62 @@ export function openFix(isAim = false) {
   $('fix').replaceChildren(
       make(
           'div',
-          {class: 'group'},
-          make('h2', {}, isAim ? phrase('view.aimTitle') : phrase('view.fixTitle')),
+          {id: 'fix-head'},
           make(
-              'label',
+              'h2',
               {},
-              phrase('view.until'),
-              choiceOf(
-                  {id: 'fix-goal', onchange: (event) => aimFor(event.target.value)},
-                  [
-                    ...(isAim ? [[UNCHOSEN, phrase('view.chooseGrade')]] : []),
-                    ...(canFix() ? GOALS : []),
-                    ...GRADES
-                  ],
-                  fixing.goal
-              )
+              word ? phrase('view.aGrade', {grade: gradeName(word)}) : phrase('view.fixTitle')
           ),
+          withIcon(buttonOf('fix-close', '', closeFix), 'close', phrase('view.close'))
+      ),
+      make('div', {id: 'fix-list', role: 'group', 'aria-label': phrase('view.proposals')}),
+      make('p', {id: 'fix-said', role: 'status'}),
+      make(
+          'div',
+          {class: 'group', id: 'fix-ways'},
+          choiceOf(
+              {
+                id: 'fix-goal',
+                'aria-label': phrase('view.until'),
+                title: phrase('view.until'),
+                onchange: (event) => aimFor(event.target.value)
+              },
+              [...(canFix() ? GOALS : []), ...GRADES],
+              fixing.goal
+          ),
+          make('span', {id: 'fix-symmetry', class: 'faint'}),
           buttonOf('fix-paint', phrase('view.findCellsRepaint'), findRepairs),
           buttonOf('fix-give', phrase('view.giveCells'), giveCells),
-          buttonOf('fix-close', phrase('view.close'), closeFix)
+          buttonOf('fix-adjust', phrase('import.adjustImage'), () => runAction('adjust'))
       ),
-      make('p', {id: 'fix-said', role: 'status'}),
-      make('div', {id: 'fix-list', role: 'group', 'aria-label': phrase('view.proposals')}),
       make(
           'details',
           {id: 'fix-more'},
           make('summary', {}, phrase('view.whatMayRepainted')),
-          ...limitChoices(fixSays)
+          ...limitChoices(fixSays, showSymmetry)
       ),
   );
   $('fix-give').hidden = isGrade(fixing.goal);
   showLocks();
+  showSymmetry();
+  showAdjust(false);
   showFound();
   tell('fixing', true);
-  $(isAim ? 'fix-goal' : 'fix-paint').focus({preventScroll: true});
+  $('fix-close').focus({preventScroll: true});
   if (isOfThis() && fixing.by === fixing.goal && fixing.found.length)
     fixSays(fixing.said);
   else
     findRepairs();
+}
+
+// Says next to the goal which symmetry proposals keep.
+function showSymmetry() {
+  if ($('fix-symmetry') && bench.state) $('fix-symmetry').textContent = keptSymmetry(bench.state);
+}
+
+// Offers the image that the picture was made of, where few repaints make no puzzle.
+function showAdjust(isAdvised) {
+  if ($('fix-adjust')) $('fix-adjust').hidden = !isAdvised || !actions.get('adjust').can();
 }
 
 function aimFor(goal) {
@@ -204,7 +231,7 @@ async function takeGivens(state, {given, isLeast}) {
 // Lists proposals, while they are found: the smallest and least seen first.
 async function findRepairs() {
   clearTimeout(fixing.waits);
-  const of = fixing.goal === UNCHOSEN ? null : bench.state;
+  const of = bench.state;
   Object.assign(fixing, {
     found: fixing.found.filter((one) => fixing.kept.has(one) && isOfThis()),
     places: NO_PLACES,
@@ -215,10 +242,11 @@ async function findRepairs() {
     turn: fixing.turn + 1
   });
   fixSays('');
+  showAdjust(false);
   showFound();
   const {goal, turn} = fixing;
-  if (!of || (goal === 'unique' && of.verdict?.word === 'unique'))
-    return fixSays(of ? phrase('view.oneSolutionThere') : '');
+  if (goal === 'unique' && of.verdict?.word === 'unique')
+    return fixSays(phrase('view.oneSolutionThere'));
   const part = Math.min(2, secondsChosen() / 4);  // of the time, for the givens, and for mixtures
   const run = await searched(phrase('view.lookingRepairs'), async (copy, state) => {
     const board = boardOf(state);
@@ -317,6 +345,7 @@ function noteOf() {
 function tellFound(done) {
   fixing.said = foundText(done);
   showFound();
+  showAdjust(!isGrade(fixing.goal) && !(wholes()[0]?.cells.length <= FEW));
   fixSays(fixing.said);
 }
 
@@ -337,6 +366,7 @@ function aimedText(done) {
 function foundText(done) {
   if (isGrade(fixing.goal)) return aimedText(done);
   const [best] = wholes();
+  const advice = ADVICE[adviceOf(fixing.of)];
   const [ended, mixed] = [verdictView.ended || !done?.isThrough, mixtures().length];
   if (!best) {
     const none = phrase('view.noRepaintFound', {
@@ -345,11 +375,13 @@ function foundText(done) {
     const near = mixed ? phrase('view.whatListedGivesCells') :
         fixing.near    ? phrase('view.whatListedComesNearer') :
                          '';
-    return `${none}${near} ${ended ? `${LONGER} ` : ''}${LOOSE}`;
+    const kept = keptSymmetry(fixing.of) ? `${phrase('view.withoutSymmetry')} ` : '';
+    return `${none}${near} ${kept}${ended ? `${LONGER} ` : ''}${advice}`;
   }
   if (best.goal !== fixing.goal && best.open > 0) return phrase('view.onlyOneSolution');
   const least = done?.proved >= best.cells.length - 1 ? phrase('view.noneSmaller') : '';
-  const loose = best.cells.length > FEW ? phrase('view.moreCellsPictureToo', {few: FEW}) : '';
+  const loose =
+      best.cells.length > FEW ? phrase('view.moreCellsPictureToo', {few: FEW, advice}) : '';
   return phrase('view.proposalsFoundChooseOne', {
     proposals: groups().reduce((sum, {items}) => sum + items.length, 0),
     least,
@@ -463,10 +495,12 @@ const HEARS = {
  * gets its own once the hand rests.
  */
 export function startFixing() {
+  on('symmetry', showSymmetry);
   on('shown', (state) => {
     if (fixing.taken && sameBenchPart(fixing.taken.before, state)) fixing.taken.unsay();
     if (!fixing.isWanted) return;
     showLocks();
+    showSymmetry();
     if (isOfThis() && !isFixing() && mayFix()) {
       $('fix').hidden = false;
       fixSays(fixing.said);

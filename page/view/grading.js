@@ -3,20 +3,21 @@
 
 import {$} from '../base/elements.js';
 import {on, tell} from '../base/events.js';
-import {gradeName} from '../base/names.js';
-import {opening} from '../base/words.js';
+import {gradeName, gradePlace} from '../base/names.js';
 import {gradeIn} from '../engine/assessing.js';
 import {bench} from '../engine/bench.js';
+import {LINE_WORDS} from '../repair/aiming.js';
 import {phrase} from '../texts/phrase.js';
 import {addAction} from './actions.js';
 import {fitText} from './dress.js';
 import {openFix} from './fixing.js';
-import {searches, secondsChosen} from './verdict.js';
+import {searches, secondsChosen, showVerdictButtons} from './verdict.js';
 
 const REST = 1000;  // milliseconds without a stroke or a search
 const MOST_SECONDS = 5;
 
 const grading = {
+  shown: null,
   of: null,
   said: null,
   waits: 0
@@ -49,11 +50,24 @@ function publishText(said) {
       '–';
 }
 
+// The last grade stays, greyed, while that of the picture at hand is worked out; what is not unique
+// has none.
 function showGrade() {
   const [said, grade] = [saidAtHand(), gradeAtHand()];
-  $('grade').textContent = grade ? `${gradeName(grade.word)} (${figuresText(said)})` : '–';
-  $('publish').textContent = publishText(said);
-  $('publish-do').hidden = !said?.fit;
+  if (bench.state?.verdict.word !== 'ambiguous')
+    grading.shown = grade ?? grading.shown;
+  else
+    grading.shown = null;
+  const {shown} = grading;
+  $('audit').classList.toggle('old', shown !== null && grade === null);
+  $('grade-word').textContent = shown ? gradeName(shown.word) : '';
+  $('grade-dots').hidden = !shown;
+  const place = shown ? gradePlace(shown.word) : -1;
+  [...$('grade-dots').children].forEach((dot, at) => dot.classList.toggle('full', at <= place));
+  if (said || !shown) {
+    $('grade').textContent = grade ? `${gradeName(grade.word)} (${figuresText(said)})` : '–';
+    $('publish').textContent = publishText(said);
+  }
 }
 
 // Waits for rest. Any other search comes first.
@@ -71,20 +85,34 @@ async function work() {
   if (bench.state && isSame(bench.state, state) && (said || !searches.running)) {
     Object.assign(grading, {of: state, said});
     showGrade();
+    showVerdictButtons();
     tell('graded', gradeAtHand());
   } else
     schedule();
 }
 
-/** Hears verdicts. */
+// The grade that is a step easier (-1) or harder (1) than that of the picture at hand, among those
+// that line logic solves; undefined where there is none.
+function nextWord(step) {
+  if (bench.state?.verdict.word !== 'unique' || bench.state.open) return undefined;
+  const at = LINE_WORDS.indexOf(gradeAtHand()?.word);
+  return at < 0 ? undefined : LINE_WORDS[at + step];
+}
+
+/** Hears verdicts, and adds what looks for another grade. */
 export function startGrading() {
-  const isSolved = () => bench.state.verdict.word === 'unique' && bench.state.open === 0;
-  addAction({
-    place: 'check',
-    id: 'aim',
-    name: opening(phrase('view.aimTitle')),
-    run: () => openFix(true),
-    can: isSolved
+  for (const [id, name, step] of [
+           ['easier', phrase('view.easier'), -1],
+           ['harder', phrase('view.harder'), 1]])
+    addAction({
+      place: 'check',
+      id,
+      name,
+      run: () => openFix(nextWord(step)),
+      can: () => nextWord(step) !== undefined
+    });
+  on('opened', () => {
+    grading.shown = null;
   });
   on('stroke', () => clearTimeout(grading.waits));
   for (const name of ['shown', 'judged']) {

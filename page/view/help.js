@@ -1,29 +1,17 @@
 // Help: a tour, what a certificate is for, the keys, and which page this is.
 
-import {hasFingers, make} from '../base/elements.js';
+import {make} from '../base/elements.js';
 import {built} from '../engine/client.js';
 import {phrase} from '../texts/phrase.js';
-import {actions, addAction, keyText} from './actions.js';
+import {actionButton, actions, addAction, keyText} from './actions.js';
 import {openDialog} from './dialogs.js';
 
-const TOUR = [
-  [phrase('view.drawOpenPicture'), phrase('view.chooseColourDragPencil')],
-  [phrase('view.drawMoreQuickly'), phrase('view.symmetryBelowToolsWand')],
-  [phrase('view.readVerdict'), phrase('view.afterEveryStrokePanel')],
-  [phrase('view.findWeakSpot'), phrase('view.tourWeakSpot')],
-  [phrase('view.tourFix'), phrase('view.fixLooksCellRepaint')],
-  [phrase('view.play'), phrase('view.playMenuCheckShows')],
-  [phrase('view.checkColours'), phrase('view.coloursColourBlindMenu')],
-  [phrase('view.publish'), phrase('view.menuFilePrintsExports')],
-];
 const CERTIFICATE = [
   phrase('view.certificateProvesYourPuzzle'),
   phrase('view.exportFileExportCertificate'),
   phrase('view.checkOneHereOpen'),
 ];
 
-// What fingers press has no keys: such as “(m)” and “(h shows them)” are left out for them.
-const toFingers = (text) => (hasFingers() ? text.replace(/\s\([a-z](\s[^)]*)?\)/g, '') : text);
 const part = (title, ...content) => make('section', {}, make('h3', {}, title), ...content);
 const paragraphs = (texts) => texts.map((text) => make('p', {}, text));
 
@@ -42,11 +30,6 @@ function versionText() {
 }
 
 function showGuide() {
-  const tour = make(
-      'ol',
-      {},
-      ...TOUR.map(([what, how]) => make('li', {}, make('b', {}, what), ` ${toFingers(how)}`))
-  );
   openDialog({
     title: phrase('view.guide'),
     wide: true,
@@ -54,7 +37,8 @@ function showGuide() {
     content: make(
         'div',
         {class: 'help'},
-        part(phrase('view.shortTour'), tour),
+        part(phrase('view.shortTour'), actionButton(actions.get('tour'), {class: 'main'})),
+        part(phrase('view.fitToPublish'), make('p', {}, phrase('view.fitMeans'))),
         part(phrase('view.whatCertificate'), ...paragraphs(CERTIFICATE)),
         part(
             phrase('view.whereYourPictures'), make('p', {}, phrase('view.yourPicturesStayLibrary'))

@@ -7,9 +7,13 @@ import {placesOfBox} from '../document/regions.js';
 import {bench} from '../engine/bench.js';
 import {boardFields} from '../repair/board.js';
 import {phrase} from '../texts/phrase.js';
+import {mirrorOfPens} from './ranking.js';
 import {selection} from './select.js';
+import {tools} from './tools.js';
 
+const AS_PENS = 'pens';
 const MIRRORS = [
+  [AS_PENS, phrase('view.asPens')],
   ['', phrase('view.comes')],
   ['x', phrase('view.leftRightSame')],
   ['y', phrase('view.topBottomSame')]
@@ -17,15 +21,26 @@ const MIRRORS = [
 
 const limits = {
   rule: true,
-  mirror: ''
+  mirror: AS_PENS
 };
 
-/** The board of a state that repairs are looked for on. */
-export const boardOf = (state) =>
-    boardFields(state, {rule: limits.rule, mirror: limits.mirror || null});
+const mirrorFor = ({picture}) =>
+    (limits.mirror === AS_PENS ? mirrorOfPens(picture, tools.symmetry) : limits.mirror || null);
 
-/** What is chosen of it in the panel; `says` tells the user what is missing. */
-export function limitChoices(says) {
+/** The board of a state that repairs are looked for on. */
+export const boardOf = (state) => boardFields(state, {rule: limits.rule, mirror: mirrorFor(state)});
+
+/** Which symmetry repairs of a state keep, in words; '' where they need not keep one. */
+export function keptSymmetry(state) {
+  const name = MIRRORS.find(([axis]) => axis && axis === mirrorFor(state))?.[1];
+  return name ? phrase('view.keepsSymmetry', {name}) : '';
+}
+
+/**
+ * What is chosen of it in the panel; `says` tells the user what is missing, and `changed` hears
+ * that another symmetry is chosen.
+ */
+export function limitChoices(says, changed) {
   const rule = make('input', {
     type: 'checkbox',
     id: 'fix-rule',
@@ -39,6 +54,7 @@ export function limitChoices(says) {
         id: 'fix-mirror',
         onchange: (event) => {
           limits.mirror = event.target.value;
+          changed();
         }
       },
       MIRRORS,

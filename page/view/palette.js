@@ -1,6 +1,7 @@
-// The palette: choosing, adding, changing, merging, removing and ordering colours. The session can
-// add and change a colour and take one for another; what it cannot (removing, ordering, another
-// background) opens the picture anew, and undo takes it back.
+// The palette: choosing, adding, changing, merging, removing and ordering colours. A press on the
+// chosen swatch opens what changes it; a swatch that is dragged, or Shift with an arrow, orders
+// them. The session can add and change a colour and take one for another; what it cannot (removing,
+// ordering, another background) opens the picture anew, and undo takes it back.
 
 import {$, choiceOf, make, say} from '../base/elements.js';
 import {behindFrame, on} from '../base/events.js';
@@ -12,15 +13,17 @@ import {LETTERS, MOST_COLOURS} from '../document/limits.js';
 import {COLOUR_NAMES, colourNamed} from '../document/named.js';
 import {XML_WHOLE, nameOf, namesOf} from '../document/names.js';
 import {reordered} from '../document/shapes.js';
+import {withIcon} from '../draw/icons.js';
 import {bench} from '../engine/bench.js';
 import {inksOf} from '../formats/webpbn.js';
 import {phrase} from '../texts/phrase.js';
-import {addAction} from './actions.js';
+import {actions, addAction, placeBeside, runAction} from './actions.js';
 import {openDialog} from './dialogs.js';
 import {colourText, dress, inkName, nearText} from './dress.js';
 import {setDown} from './select.js';
 import {heard, tools, useColour, whileOpen} from './tools.js';
 
+const DRAGGED = 6;  // pixels from which on a swatch is dragged
 const palette = {
   row: make('div', {id: 'palette', role: 'radiogroup', 'aria-label': phrase('view.colourLabel')}),
   text: make('p', {id: 'colour-text', class: 'faint'}),
@@ -43,25 +46,33 @@ const palette = {
       {id: 'ink-sign', type: 'text', maxlength: '2', 'aria-label': phrase('view.signColourXml')}
   ),
   locked: make('input', {id: 'ink-locked', type: 'checkbox'}),
-  near: make('p', {id: 'near', role: 'status'}),
+  add: make('button', {type: 'button', id: 'colour-add', 'data-action': 'colour-add'}),
+  editor:
+      make('div', {id: 'swatch', class: 'menu', popover: 'auto', 'aria-labelledby': 'colour-text'}),
+  drag: null
 };
 
 function showPalette() {
-  const {colours, maxval} = bench.state;
+  const {colours} = bench.state;
   const letters = [...LETTERS.slice(0, colours.length)];
   if (!letters.includes(tools.colour)) tools.colour = letters.at(-1);
   palette.row.replaceChildren(...letters.map((letter) => {
     const button = make(
         'button',
-        {type: 'button', role: 'radio', 'data-letter': letter, 'aria-label': colourText(letter)},
+        {
+          type: 'button',
+          role: 'radio',
+          'data-letter': letter,
+          'aria-label': colourText(letter),
+          'aria-haspopup': 'dialog'
+        },
         letter
     );
     dress(button, letter);
     return button;
   }));
   markColour();
-  const added = palette.row.parentElement.querySelector('[data-action="colour-add"]');
-  if (added) added.disabled = colours.length >= MOST_COLOURS || maxval < 1;
+  palette.add.disabled = colours.length >= MOST_COLOURS;
 }
 
 function markColour() {
@@ -108,7 +119,7 @@ function showNear() {
   const {colours, picture} = bench.state;
   if (nearShown[0] === colours && nearShown[1] === picture) return;
   nearShown = [colours, picture];
-  palette.near.textContent = nearText(bench.state);
+  $('near').textContent = nearText(bench.state);
 }
 
 // What the page alone keeps of the chosen colour.
@@ -214,7 +225,10 @@ async function changeColour(triple, name = '') {
 
 async function mergeColour() {
   const from = tools.colour;
-  if (from === '.') return say(phrase('view.backgroundStaysEveryPicture'), 'alarm');
+  if (from === '.') {
+    say(phrase('view.backgroundStaysEveryPicture'), 'alarm');
+    return;
+  }
   const letters =
       [...LETTERS.slice(0, bench.state.colours.length)].filter((letter) => letter !== from);
   const choice = choiceOf(
@@ -252,21 +266,23 @@ function deleteColour() {
   return removeColour(tools.colour);
 }
 
-function moveColour(by) {
+const moveColour = (by) => moveColourTo(LETTERS.indexOf(tools.colour) + by);
+
+// Moves the chosen colour to a place among the others, the background being at place 0.
+function moveColourTo(to) {
   const at = LETTERS.indexOf(tools.colour);
-  const to = at + by;
   if (at < 1) return say(phrase('view.backgroundAlwaysComesFirst'), 'alarm');
   if (to < 1) return say(phrase('view.colourFirstOneAlready'), 'alarm');
   if (to >= bench.state.colours.length) return say(phrase('view.colourLastOneAlready'), 'alarm');
   setDown();
-  const exchanged = (doc) => {
+  const moved = (doc) => {
     const order = [...doc.colours.keys()];
-    [order[at], order[to]] = [order[to], order[at]];
+    order.splice(to, 0, ...order.splice(at, 1));
     return reordered(doc, order);
   };
   tools.colour = LETTERS[to];
   return becomeOpened(
-      (doc) => (Math.max(at, to) < doc.colours.length ? exchanged(doc) : null),
+      (doc) => (Math.max(at, to) < doc.colours.length ? moved(doc) : null),
       phrase('view.coloursNewOrderUndo')
   );
 }
@@ -275,59 +291,124 @@ async function becomeOpened(doc, text) {
   if (await whileOpen(heard(bench.become(doc)))) say(text);
 }
 
-// On small screens what changes colours opens below the palette.
-function turnEditing() {
-  const isOpen = $('colours').classList.toggle('open');
-  $('colours-open').setAttribute('aria-expanded', isOpen);
-  if (isOpen && $('audit').classList.contains('open'))
-    $('verdict-open').click();  // both would cover the picture
+// ---- the swatches
+
+// A press on the swatch that is chosen opens what changes it.
+function pressSwatch(button, isArrow) {
+  if (palette.drag?.isMoved) return;
+  const {letter} = button.dataset;
+  if (letter !== tools.colour) return useColour(letter);
+  if (isArrow) return;
+  markColour();
+  palette.editor.showPopover();
+  placeBeside(palette.editor, button);
+  palette.editor.querySelector('input').focus();
 }
 
-/** Makes the panel of colours. */
-export function makePalette() {
-  const more = make('div', {class: 'group'});
-  const opens = make(
-      'button',
-      {type: 'button', id: 'colours-open', 'aria-expanded': 'false', onclick: turnEditing},
-      phrase('view.colours')
-  );
-  opens.setAttribute('aria-label', phrase('view.editColours'));
-  $('colours').append(
-      make('h2', {}, phrase('view.colours')),
-      palette.row,
-      opens,
+function swatchKey(event) {
+  const way = {ArrowRight: 1, ArrowLeft: -1}[event.key];
+  if (!way || !event.shiftKey) return;
+  event.preventDefault();
+  event.stopImmediatePropagation();
+  moveAndStay(way);
+}
+
+// The swatch that was moved keeps the focus, and with it the keys.
+async function moveAndStay(way) {
+  await moveColour(way);
+  palette.row.querySelector('[aria-checked=true]')?.focus();
+}
+
+const swatchAt = (x, y) => [...palette.row.children].find((one) => {
+  const {left, right, top, bottom} = one.getBoundingClientRect();
+  return x >= left && x < right && y >= top && y < bottom;
+});
+
+// A swatch that a pointer takes elsewhere goes there: what lies between moves on.
+const drags = {
+  pointerdown(event) {
+    const button = event.target.closest('[data-letter]');
+    palette.drag = button && {letter: button.dataset.letter, x: event.clientX, isMoved: false};
+  },
+  pointermove(event) {
+    const {drag} = palette;
+    if (!drag || !event.buttons || event.pointerType === 'touch') return;
+    if (!drag.isMoved && Math.abs(event.clientX - drag.x) < DRAGGED) return;
+    if (!drag.isMoved) palette.row.setPointerCapture(event.pointerId);
+    drag.isMoved = true;
+    const over = swatchAt(event.clientX, event.clientY);
+    for (const one of palette.row.children) {
+      one.classList.toggle('dragged', one.dataset.letter === drag.letter);
+      one.classList.toggle('over', one === over);
+    }
+  },
+  pointerup(event) {
+    const {drag} = palette;
+    const over = swatchAt(event.clientX, event.clientY);
+    for (const one of palette.row.children) one.classList.remove('dragged', 'over');
+    setTimeout(() => {
+      palette.drag = null;
+    });  // behind the click that ends a drag
+    if (!drag?.isMoved || !over || over.dataset.letter === drag.letter) return;
+    useColour(drag.letter);
+    moveColourTo(LETTERS.indexOf(over.dataset.letter));
+  }
+};
+
+// What changes the chosen colour, in rows of names and fields.
+function fillEditor() {
+  const row = (name, title, ...fields) =>
+      make('label', {class: 'field', title}, make('span', {}, name), ...fields);
+  palette.editor.append(
       palette.text,
-      more,
       make(
           'div',
-          {class: 'group'},
-          make('label', {}, phrase('view.change'), palette.picker),
-          palette.named,
-          make('datalist', {id: 'colour-words'}, ...COLOUR_NAMES.map((name) => make('option', {
-                                                                       value: name
-                                                                     }))),
-          make(
-              'label',
-              {title: phrase('view.noRepairChangesCells')},
-              palette.locked,
-              capital(phrase('view.locked'))
-          )
+          {class: 'field'},
+          make('span', {}, phrase('view.change')),
+          make('div', {id: 'swatch-colour'}, palette.picker, palette.named)
       ),
+      row(phrase('view.name'), null, palette.name),
+      row(phrase('view.sign'), phrase('view.oneSignEachCell'), palette.sign),
       make(
-          'div',
-          {class: 'group'},
-          make('label', {}, phrase('view.name'), palette.name),
-          make('label', {title: phrase('view.oneSignEachCell')}, phrase('view.sign'), palette.sign)
+          'label',
+          {title: phrase('view.noRepairChangesCells')},
+          palette.locked,
+          capital(phrase('view.locked'))
       ),
-      palette.near
+      make('datalist', {id: 'colour-words'}, ...COLOUR_NAMES.map((name) => make('option', {
+                                                                   value: name
+                                                                 }))),
+      make('div', {class: 'group', id: 'colour-more'})
   );
-  more.id = 'colour-more';
-  const add = (id, name, run, can) => addAction({id, name, place: 'colour-more', run, can});
-  add('colour-add', phrase('view.add'), addColour, () => bench.state.colours.length < MOST_COLOURS);
+}
+
+function addColourActions() {
+  const add = (id, name, run, place = 'colour-more', can = undefined) =>
+      addAction({id, name, place, run, can});
+  add('colour-add',
+      phrase('view.addColour'),
+      addColour,
+      null,
+      () => bench.state.colours.length < MOST_COLOURS);
   add('colour-merge', opening(phrase('view.merge')), mergeColour);
   add('colour-delete', phrase('view.delete'), deleteColour);
   add('colour-earlier', phrase('view.earlier'), () => moveColour(-1));
   add('colour-later', phrase('view.later'), () => moveColour(1));
+  for (const [id, icon] of [['colour-earlier', 'earlier'], ['colour-later', 'later']])
+    withIcon($('colour-more').querySelector(`[data-action=${id}]`), icon, actions.get(id).name);
+  for (const id of ['colour-merge', 'colour-delete'])
+    $('colour-more')
+        .querySelector(`[data-action=${id}]`)
+        .addEventListener('click', () => palette.editor.hidePopover());
+}
+
+/** Makes the panel of colours. */
+export function makePalette() {
+  $('colours').append(palette.row, palette.add, palette.editor);
+  fillEditor();
+  addColourActions();
+  withIcon(palette.add, 'plus', phrase('view.addColour'));
+  palette.add.addEventListener('click', () => runAction('colour-add'));
   palette.picker.addEventListener('change', () => changeColour(tripleOf(palette.picker.value)));
   palette.named.addEventListener('change', changeByName);
   palette.name.addEventListener('change', changeName);
@@ -336,7 +417,12 @@ export function makePalette() {
       'change',
       () => changeInk(({locked, ...ink}) => (palette.locked.checked ? {...ink, locked: true} : ink))
   );
-  radioGroup(palette.row, (button) => useColour(button.dataset.letter));
+  palette.editor.addEventListener('keydown', (event) => {
+    if (event.key === 'Enter' && event.target.matches('input')) palette.editor.hidePopover();
+  });
+  palette.row.addEventListener('keydown', swatchKey);
+  for (const [type, hear] of Object.entries(drags)) palette.row.addEventListener(type, hear);
+  radioGroup(palette.row, pressSwatch);
   let shown = '';
   on('shown', (state) => {
     const key = [state.maxval, ...state.colours, JSON.stringify(state.inks)].join(';');

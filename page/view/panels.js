@@ -1,15 +1,16 @@
 // The tool bar, and the panels for the cell that is pointed at and for its row and column.
 
-import {$, choiceOf, make, say, svgPart} from '../base/elements.js';
+import {$, make, say} from '../base/elements.js';
 import {on} from '../base/events.js';
 import {markRadio, radioGroup} from '../base/radios.js';
 import {capital, lineName} from '../base/words.js';
 import {MOST_CELLS} from '../document/limits.js';
+import {iconOf, withIcon} from '../draw/icons.js';
 import {sheet} from '../draw/sheet.js';
 import {bench} from '../engine/bench.js';
 import {clueText} from '../engine/opening.js';
 import {phrase} from '../texts/phrase.js';
-import {addAction} from './actions.js';
+import {addAction, makeMenu} from './actions.js';
 import {cellText, clueInto, cursor} from './grid.js';
 import {setDown} from './select.js';
 import {TOOLS, sendStroke, tools, useSymmetry, useTool} from './tools.js';
@@ -21,67 +22,87 @@ const SYMMETRY_NAMES = {
   both: phrase('view.both'),
   quarter: phrase('view.quarterTurns')
 };
-const bar = {
+// Tools that belong together: they draw, fill, select, and mark or ask.
+const GROUPS = [
+  ['pencil', 'line', 'rectangle', 'box'],
+  ['bucket', 'recolour'],
+  ['wand', 'select'],
+  ['pin', 'lock', 'why']
+];
+const rail = {
   row: make('div', {id: 'tool-row', role: 'radiogroup', 'aria-label': phrase('view.tool')}),
-  hint: make('p', {id: 'hint', class: 'faint'}),
-  symmetry: choiceOf(
-      {id: 'symmetry', 'aria-label': phrase('view.symmetry'), title: phrase('view.symmetricPens')},
-      Object.entries(SYMMETRY_NAMES)
-  )
+  symmetry: make('button', {type: 'button', id: 'symmetry'}),
+  list: make('div', {
+    id: 'symmetries',
+    class: 'menu',
+    role: 'menu',
+    popover: 'auto',
+    'aria-label': phrase('view.symmetry')
+  })
 };
 
-// The picture of a tool beside its name: lines on a field of 16 by 16.
-function iconOf(name, {icon}) {
-  const svg = svgPart(
-      'svg', {viewBox: '0 0 16 16', width: 16, height: 16, class: 'icon', 'aria-hidden': 'true'}
+function toolButton(name) {
+  const tool = TOOLS[name];
+  addAction({id: `tool-${name}`, name: tool.name, key: tool.key, run: () => useTool(name)});
+  const button = make(
+      'button', {type: 'button', role: 'radio', 'data-tool': name, 'aria-keyshortcuts': tool.key}
   );
-  svg.append(svgPart('path', {
-    d: icon,
-    fill: name === 'box' ? 'currentColor' : 'none',
-    stroke: 'currentColor',
-    'stroke-width': 1.5,
-    'stroke-linecap': 'round',
-    'stroke-linejoin': 'round'
-  }));
-  return svg;
+  return withIcon(button, name, tool.name, tool.key);
 }
 
+/** Makes the rail of tools, with the symmetry of the pens at its end. */
 export function makeToolBar() {
-  for (const [name, tool] of Object.entries(TOOLS)) {
-    bar.row.append(make(
-        'button',
-        {
-          type: 'button',
-          role: 'radio',
-          'data-tool': name,
-          title: tool.hint,
-          'aria-keyshortcuts': tool.key
-        },
-        iconOf(name, tool),
-        make('span', {}, tool.name),
-        make('kbd', {'aria-hidden': 'true'}, tool.key)
-    ));
-    addAction({id: `tool-${name}`, name: tool.name, key: tool.key, run: () => useTool(name)});
+  for (const group of GROUPS) {
+    rail.row.append(...group.map(toolButton));
+    rail.row.lastChild.classList.add('last');
   }
-  $('tools').append(bar.row, bar.symmetry, bar.hint);
-  bar.symmetry.addEventListener('change', () => useSymmetry(bar.symmetry.value));
-  on('symmetry', (kind) => {
-    bar.symmetry.value = kind;
-  });
-  radioGroup(bar.row, (button) => useTool(button.dataset.tool));
+  makeMenu(rail.symmetry, rail.list, symmetryItems);
+  $('tools').append(rail.row, rail.symmetry, rail.list);
+  on('symmetry', showSymmetry);
+  radioGroup(rail.row, (button) => useTool(button.dataset.tool));
   on('tool', () => showTool().scrollIntoView({block: 'nearest', inline: 'nearest'})
-  );  // on a phone the bar is wider than the window
+  );  // on a phone the rail is wider than the window
   showTool();
+  showSymmetry();
+}
+
+const symmetryItems = () => Object.entries(SYMMETRY_NAMES)
+                                .map(
+                                    ([kind, name]) => make(
+                                        'button',
+                                        {
+                                          type: 'button',
+                                          role: 'menuitemradio',
+                                          tabindex: '-1',
+                                          'data-symmetry': kind,
+                                          'aria-checked': String(kind === tools.symmetry),
+                                          onclick: () => {
+                                            rail.list.hidePopover();
+                                            useSymmetry(kind);
+                                          }
+                                        },
+                                        iconOf(kind),
+                                        make('span', {}, name)
+                                    )
+                                );
+
+function showSymmetry() {
+  const name = `${phrase('view.symmetry')}: ${SYMMETRY_NAMES[tools.symmetry]}`;
+  withIcon(rail.symmetry, tools.symmetry, name, 'm');
+  rail.symmetry.classList.toggle('on', tools.symmetry !== 'none');
 }
 
 // Shows which tool is taken, and returns its button.
 function showTool() {
-  markRadio(bar.row, ({dataset}) => dataset.tool === tools.name);
-  bar.row.querySelector('[data-tool=wand] span').textContent =
-      TOOLS.wand.name + (tools.adds ? ' +' : '');
-  bar.hint.textContent = TOOLS[tools.name].hint;
+  markRadio(rail.row, ({dataset}) => dataset.tool === tools.name);
+  const wand = rail.row.querySelector('[data-tool=wand]');
+  if (tools.adds)
+    withIcon(wand, 'wand-adds', phrase('view.wandAdds'), TOOLS.wand.key);
+  else
+    withIcon(wand, 'wand', TOOLS.wand.name, TOOLS.wand.key);
+  $('hint').textContent = TOOLS[tools.name].hint;
   sheet.stage.dataset.tool = tools.name;
-  return bar.row.querySelector('[aria-checked=true]');
+  return rail.row.querySelector('[aria-checked=true]');
 }
 
 const panel = {
@@ -192,7 +213,11 @@ export function makeLinesPanel() {
             LINE_TEXTS[word].after,
             () => `insert ${word} ${at() + 1}`
         ),
-        button(phrase('view.delete'), LINE_TEXTS[word].gone, () => `delete ${word} ${at()}`),
+        withIcon(
+            button('', LINE_TEXTS[word].gone, () => `delete ${word} ${at()}`),
+            'delete',
+            LINE_TEXTS[word].gone
+        ),
         make(
             'span',
             {},

@@ -22,8 +22,8 @@ const wheel = {
   rolled: 0,
   when: 0
 };
-const NOTCH = 40;  // pixels of rolling for one step: a wheel sends more at once, a pad for two
-                   // fingers less but often
+// pixels of rolling for one step: a wheel sends more at once, a pad for two fingers less but often
+const NOTCH = 40;
 
 const placeOfEvent = (event) => ({x: event.clientX, y: event.clientY});
 

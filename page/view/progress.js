@@ -11,7 +11,7 @@ const REST = 50;    // milliseconds of work until the browser may draw
 /** In place of a Progress where nobody waits or stops it. */
 export const UNSEEN = {
   isStopped: false,
-  goesOn: async (text) => true,
+  goesOn: async (_text) => true,
   held: (engine) => engine
 };
 

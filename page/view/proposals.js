@@ -149,6 +149,13 @@ export function textOf(one) {
                      paintedText(one) + leftOf(one);
 }
 
+// Where it begins, as short as can be, and whether there is more.
+function spotOf({state: {columns}, cells = [], given = []}) {
+  const places = [...cells.map(({index}) => index), ...given];
+  const [row, col] = [Math.floor(places[0] / columns) + 1, (places[0] % columns) + 1];
+  return `${phrase('view.spot', {row, col})}${places.length > 1 ? ' …' : ''}`;
+}
+
 // The few words below its picture.
 function shortOf({cells, given, goal, far, open}) {
   if (far) return phrase('view.closer');
@@ -185,8 +192,8 @@ function proposalItem(one, {take, keep, preview, isKept}) {
         onblur: hide
       },
       make('span', {class: 'parts'}, ...picturesOf(one)),
-      make('span', {}, shortOf(one)),
-      make('span', {class: 'use', 'aria-hidden': 'true'}, phrase('view.useThis'))
+      make('b', {'data-where': ''}, spotOf(one)),
+      make('span', {}, shortOf(one))
   );
   const box = make('input', {
     type: 'checkbox',
@@ -198,7 +205,12 @@ function proposalItem(one, {take, keep, preview, isKept}) {
       'li',
       {},
       button,
-      make('label', {title: phrase('view.keepNextSearch')}, box, phrase('view.keep'))
+      make(
+          'label',
+          {title: phrase('view.keepNextSearch')},
+          box,
+          make('span', {}, phrase('view.keep'))
+      )
   );
 }
 

@@ -5,11 +5,23 @@ import {eightBits, oklabOf} from '../document/colours.js';
 import {painted} from '../document/cover.js';
 import {LETTERS} from '../document/limits.js';
 
+/** Whether both halves of a picture are alike about an axis: 'x', left and right, or 'y'. */
+export const isMirrored = (picture, axis) =>
+    (axis === 'x' ? picture.every((row) => row === [...row].reverse().join('')) :
+                    picture.join() === [...picture].reverse().join());
+
 /** The axis about which both halves of a picture are alike: 'x', 'y' or null. */
-export function mirrorOf(picture) {
-  if (picture.every((row) => row === [...row].reverse().join(''))) return 'x';
-  return picture.join() === [...picture].reverse().join() ? 'y' : null;
-}
+export const mirrorOf = (picture) => ['x', 'y'].find((axis) => isMirrored(picture, axis)) ?? null;
+
+const AXES_OF_PENS = {
+  across: ['x'],
+  down: ['y'],
+  both: ['x', 'y']
+};
+
+/** The axis of symmetric pens about which a picture is alike; null where there is none. */
+export const mirrorOfPens = (picture, symmetry) =>
+    (AXES_OF_PENS[symmetry] ?? []).find((axis) => isMirrored(picture, axis)) ?? null;
 
 const codesOf = (cells) => cells.map(({index, colour}) => index * 16 + colour);
 

@@ -14,73 +14,17 @@ import {phrase} from '../texts/phrase.js';
 import {alongSelect, beginSelect, endSelect, isSelected, selectPlaces, selectedPlaces, selectionBoxes, setDown} from './select.js';
 
 export const TOOLS = {
-  pencil: {
-    icon: 'M2.5 13.5l.8-3.6 7.6-7.6 2.8 2.8-7.6 7.6z',
-    name: phrase('view.pencil'),
-    key: 'p',
-    hint: phrase('view.dragPaintRightButton')
-  },
-  line: {
-    icon: 'M2.5 13.5l11-11',
-    name: phrase('view.line'),
-    key: 'l',
-    hint: phrase('view.dragFromEndEnd')
-  },
-  rectangle: {
-    icon: 'M2.5 3.5h11v9h-11z',
-    name: phrase('view.rectangle'),
-    key: 'r',
-    hint: phrase('view.outlineHint')
-  },
-  box: {
-    icon: 'M2.5 3.5h11v9h-11z',
-    name: phrase('view.filledRectangle'),
-    key: 'f',
-    hint: phrase('view.filledHint')
-  },
-  bucket: {
-    icon: 'M7.5 2.5l6 6-5 5-6-6zM2.5 7.5h9M13.5 11v2.5',
-    name: phrase('view.bucket'),
-    key: 'b',
-    hint: phrase('view.fillsConnectedCellsOne')
-  },
-  recolour: {
-    icon: 'M2.5 2.5h6v6h-6zM7.5 10.5v3h6v-6h-3',
-    name: phrase('view.recolour'),
-    key: 'e',
-    hint: phrase('view.turnsAllCellsColour')
-  },
-  wand: {
-    icon: 'M2.5 13.5l7-7M11 2v3M9.5 3.5h3M13.5 7v2M12.5 8h2M6 2.5v2M5 3.5h2',
-    name: phrase('view.wand'),
-    key: 'a',
-    hint: phrase('view.selectsConnectedCellsOne')
-  },
-  select: {
-    icon:
-        'M2.5 5v-2.5h2.5M8 2.5h0M11 2.5h2.5v2.5M13.5 8v0M13.5 11v2.5h-2.5M8 13.5h0M5 13.5h-2.5v-2.5M2.5 8v0',
-    name: phrase('view.select'),
-    key: 's',
-    hint: phrase('view.dragSelectRectangleDrag')
-  },
-  pin: {
-    icon: 'M8 2l5 6-5 6-5-6z',
-    name: phrase('view.giveCells'),
-    key: 'g',
-    hint: phrase('view.givenCellsPrintedPuzzle')
-  },
-  lock: {
-    icon: 'M3.5 7.5h9v6h-9zM5.5 7.5v-2a2.5 2.5 0 015 0v2',
-    name: phrase('view.lockCells'),
-    key: 'k',
-    hint: phrase('view.noRepairChangesLocked')
-  },
-  why: {
-    icon: 'M5.3 6a2.7 2.7 0 115.4 0c0 2.2-2.7 2.2-2.7 4.2M8 13.2v.3',
-    name: phrase('view.why'),
-    key: 'w',
-    hint: phrase('view.pointCellSeeWhy')
-  },
+  pencil: {name: phrase('view.pencil'), key: 'p', hint: phrase('view.dragPaintRightButton')},
+  line: {name: phrase('view.line'), key: 'l', hint: phrase('view.dragFromEndEnd')},
+  rectangle: {name: phrase('view.rectangle'), key: 'r', hint: phrase('view.outlineHint')},
+  box: {name: phrase('view.filledRectangle'), key: 'f', hint: phrase('view.filledHint')},
+  bucket: {name: phrase('view.bucket'), key: 'b', hint: phrase('view.fillsConnectedCellsOne')},
+  recolour: {name: phrase('view.recolour'), key: 'e', hint: phrase('view.turnsAllCellsColour')},
+  wand: {name: phrase('view.wand'), key: 'a', hint: phrase('view.selectsConnectedCellsOne')},
+  select: {name: phrase('view.select'), key: 's', hint: phrase('view.dragSelectRectangleDrag')},
+  pin: {name: phrase('view.giveCells'), key: 'g', hint: phrase('view.givenCellsPrintedPuzzle')},
+  lock: {name: phrase('view.lockCells'), key: 'k', hint: phrase('view.noRepairChangesLocked')},
+  why: {name: phrase('view.why'), key: 'w', hint: phrase('view.pointCellSeeWhy')},
 };
 
 export const tools = {
@@ -88,8 +32,9 @@ export const tools = {
   colour: 'a',
   drag: null,
   symmetry: 'none',
-  adds: false
-};  // whether the wand adds to what is selected
+  adds: false,  // whether the wand adds to what is selected
+  last: null    // the cell that was painted last, in which open document
+};
 
 /** Has the pens draw symmetric. */
 export function useSymmetry(symmetry) {
@@ -151,7 +96,17 @@ const MARKS = {
   lock: 'locks'
 };
 
-/** Begins a drag at a cell; `adds` has a selection grow. */
+// The cell from which a pen goes on in a straight line; null where there is none in this picture.
+function lastPainted() {
+  const {last} = tools;
+  const {rows, columns} = sheet.doc;
+  return last?.term === bench.term && last.row < rows && last.col < columns ? last : null;
+}
+
+/**
+ * Begins a drag at a cell; `adds` has a selection grow, and the pencil draw a line from the cell
+ * that was painted last.
+ */
 export function beginDrag(at, adds = false) {
   if (!bench.state) return;
   if (sheet.other) return say(phrase('view.otherPictureGoBack'), 'alarm');
@@ -163,10 +118,11 @@ export function beginDrag(at, adds = false) {
     return paintCells(withImages([at]).flatMap((cell) => bucketCells(sheet.doc.picture, cell)));
   if (tools.name === 'recolour') return recolourAt(at);
   const marks = MARKS[tools.name];
+  const isLine = adds && tools.name === 'pencil';
   tools.drag = {
     tool: tools.name,
     from: at,
-    to: at,
+    to: (isLine && lastPainted()) || at,
     letter: tools.colour,
     touched: new Set(),
     gives: marks !== undefined && !sheet.doc[marks].has(indexAt(at))
@@ -204,6 +160,7 @@ export function endDrag() {
   if (drag.tool === 'select') return endSelect();
   tools.drag = null;
   if (MARKS[drag.tool]) return endMarks(drag);
+  tools.last = {row: drag.to.row, col: drag.to.col, term: bench.term};
   const done = paintPlaces(drag.touched, drag.letter);
   sheet.overlay = new Map();
   sheet.update();

@@ -1,11 +1,12 @@
 // The panel that tells the verdict: its words, the second picture, hatching with its legend, the
 // time of searches, and the line that tells what is searched.
 
-import {$, choiceOf, make, say} from '../base/elements.js';
+import {$, choiceOf, fieldOf, make, say} from '../base/elements.js';
 import {on} from '../base/events.js';
-import {verdictTitle} from '../base/names.js';
-import {capital, linesText, opening} from '../base/words.js';
+import {GRADES, verdictTitle} from '../base/names.js';
+import {capital, linesText} from '../base/words.js';
 import {cellsThatDiffer} from '../document/shapes.js';
+import {iconOf, withIcon} from '../draw/icons.js';
 import {sheet} from '../draw/sheet.js';
 import {bench} from '../engine/bench.js';
 import {startEngine} from '../engine/client.js';
@@ -36,7 +37,7 @@ export const searches = new Searches({
   seconds: secondsChosen,
   told: showTask,
   judged: (verdict) => bench.takeVerdict(bench.state, verdict),
-  ended(name, why) {
+  ended(_name, why) {
     verdictView.ended = why;
     if (why === 'time' || why === 'stopped') showVerdict(bench.state);
   },
@@ -48,113 +49,79 @@ export const searches = new Searches({
 
 // ---- the panel
 
+// Pinned above all: the verdict, a sentence, the grade, and what is done next.
 function makeVerdictPanel() {
   $('audit').append(
       make(
           'div',
           {id: 'verdict-line'},
-          make('h2', {id: 'verdict'}, '…'),
-          make('span', {id: 'verdict-short'}),
-          make(
-              'button',
-              {type: 'button', id: 'verdict-fix', hidden: true, onclick: () => openFix()},
-              phrase('view.fixTitle')
-          ),
-          make(
-              'button',
-              {
-                type: 'button',
-                id: 'help-open',
-                'aria-haspopup': 'menu',
-                popovertarget: 'menu-help',
-                'aria-label': phrase('view.help')
-              },
-              '?'
-          ),
-          make(
-              'button',
-              {
-                type: 'button',
-                id: 'verdict-open',
-                'aria-expanded': 'false',
-                'aria-controls': 'verdict-more',
-                onclick: turnVerdictMore
-              },
-              phrase('view.more')
-          )
-      ),
-      make(
-          'div',
-          {id: 'verdict-more'},
-          make('p', {id: 'verdict-why'}),
-          make('div', {id: 'verdict-do', class: 'group'}),
-          make(
-              'dl',
-              {},
-              make('dt', {id: 'grade-name'}, phrase('import.grade')),
-              make('dd', {id: 'grade'}),
-              make('dt', {}, phrase('view.fitToPublish')),
-              make('dd', {id: 'fit-row'}, make('span', {id: 'publish'}), make('span', {
-                     id: 'publish-do',
-                     hidden: true
-                   })),
-              make('dt', {}, capital(phrase('view.openCells'))),
-              make('dd', {id: 'open'}),
-              make('dt', {}, phrase('view.cluesChanged')),
-              make('dd', {id: 'changed'})
-          ),
+          make('h2', {id: 'verdict'}),
           make(
               'p',
-              {},
+              {id: 'grade-shown', title: phrase('import.grade')},
+              make('span', {id: 'grade-word'}),
               make(
-                  'label',
-                  {},
-                  phrase('view.show'),
-                  choiceOf(
-                      {id: 'hatching', onchange: (event) => setHatching(event.target.value)},
-                      HATCHINGS
-                  )
-              )
-          ),
-          make('p', {id: 'legend', class: 'faint'}),
-          make(
-              'p',
-              {},
-              make(
-                  'label',
-                  {},
-                  phrase('view.searchTime'),
-                  choiceOf(
-                      {id: 'seconds', onchange: (event) => setSeconds(event.target.value)}, TIMES
-                  )
+                  'span',
+                  {id: 'grade-dots', 'aria-hidden': 'true'},
+                  ...Array.from({length: GRADES}, () => make('span', {class: 'dot'}))
               )
           )
       ),
-  );
-  $('audit').append(make('p', {id: 'verdict-heard', class: 'unseen', role: 'status'}));
-  $('seconds').value = verdictView.seconds;
-  const stop = make(
-      'button',
-      {
-        type: 'button',
-        id: 'stop',
-        title: `${phrase('view.stopSearch')} (.)`,
-        onclick: () => searches.stop()
-      },
-      phrase('view.stop')
+      make('p', {id: 'verdict-short'}),
+      make('div', {id: 'verdict-do', class: 'group'}),
+      make('p', {id: 'verdict-heard', class: 'unseen', role: 'status'})
   );
   $('task').append(
-      make('span', {id: 'task-name'}), make('span', {id: 'task-time', 'aria-hidden': 'true'}), stop
+      make('span', {id: 'task-name'}),
+      make('span', {id: 'task-time', 'aria-hidden': 'true'}),
+      make(
+          'button',
+          {
+            type: 'button',
+            id: 'stop',
+            title: `${phrase('view.stopSearch')} (.)`,
+            onclick: () => searches.stop()
+          },
+          phrase('view.stop')
+      )
   );
 }
 
-// On small screens the verdict stands in one line; the rest opens below it.
-function turnVerdictMore() {
-  const isOpen = $('audit').classList.toggle('open');
+// What is told and chosen besides. What changes its length stands at the end.
+function makeDetails() {
+  const fact = (name, id) => [make('dt', {}, name), make('dd', {id})];
+  $('details').append(
+      make('h2', {}, phrase('view.details')),
+      make('div', {id: 'details-do', class: 'group'}),
+      fieldOf(
+          phrase('view.show'),
+          choiceOf(
+              {id: 'hatching', onchange: (event) => setHatching(event.target.value)}, HATCHINGS
+          )
+      ),
+      fieldOf(
+          phrase('view.searchTime'),
+          choiceOf({id: 'seconds', onchange: (event) => setSeconds(event.target.value)}, TIMES)
+      ),
+      make('p', {id: 'verdict-why'}),
+      make(
+          'dl',
+          {},
+          ...fact(phrase('import.grade'), 'grade'),
+          ...fact(phrase('view.fitToPublish'), 'publish'),
+          ...fact(capital(phrase('view.openCells')), 'open'),
+          ...fact(phrase('view.cluesChanged'), 'changed')
+      ),
+      make('p', {id: 'near', role: 'status'}),
+      make('p', {id: 'legend', class: 'faint'})
+  );
+  $('seconds').value = verdictView.seconds;
+}
+
+// On small screens the panel stands in a line; the rest opens below it.
+function turnMore() {
+  const isOpen = $('panels').classList.toggle('open');
   $('verdict-open').setAttribute('aria-expanded', isOpen);
-  $('verdict-open').textContent = isOpen ? phrase('view.less') : phrase('view.more');
-  if (isOpen && $('colours').classList.contains('open'))
-    $('colours-open').click();  // both would cover the picture
 }
 
 export function setSeconds(value) {
@@ -203,60 +170,60 @@ function differCount({verdict, picture}) {
 const isBlank = ({verdict, clues}) =>
     verdict.word === 'unique' && clues.rows.every((blocks) => !blocks.length);
 
-// The verdict in a few words beside its title.
-function verdictShort(state) {
-  const {word} = state.verdict;
-  if (isBlank(state)) return phrase('view.nothingPainted');
-  if (word === 'ambiguous') return phrase('view.countDiffer', {cells: differCount(state)});
-  if (word === 'unique')
-    return state.open ?
-        phrase('view.cellsNeedGuessing', {open: state.open, count: state.rows * state.columns}) :
-        phrase('view.noGuessing');
-  return '';
-}
-
-// The verdict as a title and a sentence.
+// The verdict: its name, a sentence for the panel, and all that is told of it.
 function verdictTexts(state) {
   const {verdict, givens, open} = state;
-  const size = state.rows * state.columns;
-  if (isBlank(state)) return [`○ ${phrase('view.blank')}`, phrase('view.blankOneSolution')];
+  const count = state.rows * state.columns;
+  if (isBlank(state))
+    return ['blank', phrase('view.nothingPainted'), phrase('view.blankOneSolution')];
   if (verdict.word === 'unique') {
     const with_ = givens.size ? phrase('view.andGivenCells', {cells: givens.size}) : '';
+    const lines = open ? phrase('view.someNeedGuessing', {open, count}) :
+                         phrase('view.lineLogicSolvesWithout');
     return [
-      verdictTitle('unique'),
-      phrase('view.noOtherPictureThese', {
-        with: with_,
-        open: open ? phrase('view.someNeedGuessing', {open, count: size}) :
-                     phrase('view.lineLogicSolvesWithout')
-      })
+      'unique',
+      open ? phrase('view.stayOpen', {open, count}) : lines,
+      phrase('view.noOtherPictureThese', {with: with_, open: lines})
     ];
   }
-  if (verdict.word === 'ambiguous')
+  if (verdict.word === 'ambiguous') {
+    const cells = differCount(state);
     return [
-      verdictTitle('ambiguous'),
-      phrase('view.anotherPictureTheseClues', {cells: differCount(state)})
+      'ambiguous',
+      phrase('view.otherDiffers', {cells}),
+      phrase('view.anotherPictureTheseClues', {cells})
     ];
+  }
   if (searches.running?.judges)
-    return [phrase('view.searching'), phrase('view.noOtherPictureFound')];
+    return ['searching', phrase('view.noOtherPictureFound'), phrase('view.nothingFoundYet')];
   const why = {
     time: phrase('view.withinS', {secondsChosen: secondsChosen()}),
     stopped: phrase('view.beforeStopped')
   }[verdictView.ended];
   return [
-    verdictTitle('undecided'),
+    'undecided',
+    phrase('view.neitherYet'),
     why ? phrase('view.nothingFound', {why}) : phrase('view.nothingFoundYet')
   ];
 }
 
+const TITLES = {
+  blank: phrase('view.blank'),
+  searching: phrase('view.searching')
+};
+const titleOf = (name) => TITLES[name] ?? verdictTitle(name);
+
 function showVerdict(state) {
   if (!state) return;
-  const [title, told] = verdictTexts(state);
+  const [name, short, told] = verdictTexts(state);
   const {word} = state.verdict;
   $('audit').dataset.word = isBlank(state) ? '' : word;
-  $('verdict').textContent = title;
+  if ($('verdict').dataset.name !== name) {
+    $('verdict').dataset.name = name;
+    $('verdict').replaceChildren(iconOf(name), titleOf(name));
+  }
   $('verdict-why').textContent = told;
-  $('verdict-short').textContent = verdictShort(state);
-  $('verdict-fix').hidden = word !== 'ambiguous';
+  $('verdict-short').textContent = $('verdict-short').title = short;
   $('open').textContent =
       phrase('view.openOfCells', {open: state.open, cells: state.rows * state.columns});
   $('changed').textContent =
@@ -270,20 +237,25 @@ function showVerdict(state) {
   showVerdictButtons();
 }
 
-function showVerdictButtons() {
-  for (const button of $('verdict-do').children) {
-    const action = actions.get(button.dataset.action);
-    button.hidden = !action.can();
-    if (action.id === 'other') {
-      button.textContent =
-          sheet.other ? phrase('view.backYourPicture') : phrase('view.showOtherPicture');
-      button.setAttribute('aria-pressed', sheet.other === true);
-    }
-    if (action.id === 'search')
-      button.textContent = verdictView.seconds === '' ?
-          phrase('view.searchUntilStopped') :
-          phrase('view.searchS', {seconds: verdictView.seconds});
-  }
+/** What is done next comes first, in the page's blue: a puzzle is mended, and then published. */
+export function showVerdictButtons() {
+  for (const button of $('verdict-do').querySelectorAll('[data-action]'))
+    button.hidden = !actions.get(button.dataset.action).can();
+  for (const button of $('details-do').children)
+    button.disabled = !actions.get(button.dataset.action).can();
+  const [fix, publish, other, search] = ['fix', 'publish', 'other', 'search'].map(
+      (id) => $('verdict-do').querySelector(`[data-action="${id}"]`)
+  );
+  publish.hidden ||= !isWord('unique');
+  publish.classList.toggle('main', fix.hidden);
+  const name = sheet.other ? phrase('view.backYourPicture') : phrase('view.showOtherPicture');
+  withIcon(other, 'other', name, 'x').setAttribute('aria-pressed', sheet.other === true);
+  withIcon(
+      search,
+      'search',
+      verdictView.seconds === '' ? phrase('view.searchUntilStopped') :
+                                   phrase('view.searchS', {seconds: verdictView.seconds})
+  );
   if (!mayFix()) hideFix();
 }
 
@@ -352,10 +324,10 @@ function nextHatching() {
 // the panel, and what the line at the top says stays there.
 let saidVerdict = '';
 function sayVerdict(state) {
-  const [title] = verdictTexts(state);
-  if (title === saidVerdict || searches.running) return;
-  saidVerdict = title;
-  $('verdict-heard').textContent = `${title.slice(2)}.`;
+  const [name] = verdictTexts(state);
+  if (name === saidVerdict || searches.running) return;
+  saidVerdict = name;
+  $('verdict-heard').textContent = `${titleOf(name)}.`;
 }
 
 /** The actions of the menu Check, and the listeners that keep the panel. */
@@ -368,7 +340,7 @@ export function startVerdict() {
              run: () => showOther(!sheet.other),
              can: () => isWord('ambiguous')
            },
-            {id: 'fix', name: opening(phrase('view.fixTitle')), run: () => openFix(), can: canFix},
+            {id: 'fix', name: phrase('view.fixTitle'), run: () => openFix(), can: canFix},
             {
               id: 'search',
               name: phrase('view.searchAnotherPicture'),
@@ -390,8 +362,8 @@ export function startVerdict() {
     verdictView.hatching = null;
   });
   on('fixing', (is) => {
-    if (is && $('audit').classList.contains('open'))
-      turnVerdictMore();  // on a small screen it would cover the proposals
+    if (is && $('panels').classList.contains('open'))
+      turnMore();  // on a small screen it would cover the proposals
     showHatching(bench.state);
   });
   on('shown', () => {
@@ -410,7 +382,25 @@ export function startVerdict() {
 /** Fills the panel. */
 export function showVerdictPanel() {
   makeVerdictPanel();
-  for (const id of ['other', 'fix', 'aim', 'search', 'play', 'walk'])
-    $('verdict-do').append(actionButton(actions.get(id)));
-  for (const id of ['export-site', 'share']) $('publish-do').append(actionButton(actions.get(id)));
+  makeDetails();
+  const button = (id) => actionButton(actions.get(id));
+  const help = make(
+      'button',
+      {type: 'button', id: 'help-open', 'aria-haspopup': 'menu', popovertarget: 'menu-help'}
+  );
+  const more = make('button', {
+    type: 'button',
+    id: 'verdict-open',
+    'aria-expanded': 'false',
+    'aria-controls': 'panels',
+    onclick: turnMore
+  });
+  $('verdict-do')
+      .append(
+          ...['fix', 'publish', 'play', 'other', 'search'].map(button),
+          withIcon(help, 'help', phrase('view.help')),
+          withIcon(more, 'more', phrase('view.more'))
+      );
+  $('verdict-do').querySelector('[data-action="fix"]').classList.add('main');
+  $('details-do').append(...['easier', 'harder', 'walk'].map(button));
 }
