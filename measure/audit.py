@@ -1,11 +1,14 @@
 #!/usr/bin/env python3
-"""Draws collections, and measures nonobench-audit on them. It needs nonobench's library (NONOBENCH_LIBRARY, or c/build).
+"""Draws collections, and measures nonobench-audit on them. It needs nonobench's library
+(NONOBENCH_LIBRARY, or c/build).
 
-measure/audit.py draw FOLDER [COUNT [SEED]]   pictures of blobs, 20 by 20 in 2 to 5 colours: of four, three have one solution
-measure/audit.py beside FOLDER OTHER          processor time of an audit, beside that of 0.6.0 without grades, in turn; OTHER is the folder
-                                              in which the wheel of 0.6.0 is unpacked
+measure/audit.py draw FOLDER [COUNT [SEED]]   pictures of blobs, 20 by 20 in 2 to 5 colours: of
+four, three have one solution measure/audit.py beside FOLDER OTHER          processor time of an
+audit, and of one more with --resume, beside that of another version, in turn; OTHER is the folder
+                                              in which its package is unpacked, with its library
 
-One count and one seed (by default 1) always give the same pictures: each has a generator seeded by its number.
+One count and one seed (by default 1) always give the same pictures: each has a generator seeded by
+its number.
 """
 
 import json
@@ -93,27 +96,26 @@ def beside(folder, other):
     """Three turns of both. Their verdicts are the same."""
     old = next(Path(other).rglob("libnonobench.so"))
     package = next(Path(other).rglob("nonobench/collection")).parent.parent
+    theirs = {"PYTHONPATH": str(package), "NONOBENCH_LIBRARY": str(old)}
     with tempfile.TemporaryDirectory() as work:
-        words = [*PROGRAM, folder, "--quiet", "--jobs", "1", "--jsonl"]
-        ours, theirs = [], []
+        times = {(name, again): [] for name in ("new", "old") for again in (False, True)}
         for _ in range(3):
-            theirs.append(
-                spent(
-                    [*words, f"{work}/old", "--no-grade"],
-                    PYTHONPATH=str(package),
-                    NONOBENCH_LIBRARY=str(old),
-                )
-            )
-            ours.append(spent([*words, f"{work}/new"]))
+            for name, more in (("old", theirs), ("new", {})):
+                words = [*PROGRAM, folder, "--quiet", "--jobs", "1", "--jsonl", f"{work}/{name}"]
+                Path(work, name).unlink(missing_ok=True)
+                times[name, False].append(spent(words, **more))
+                times[name, True].append(spent([*words, "--resume"], **more))
         verdicts = [
-            [json.loads(line)["verdict"] for line in Path(work, name).read_text().splitlines()]
-            for name in ("old", "new")
+            {Path(row["file"]).name: row["verdict"] for row in map(json.loads, lines)}
+            for lines in (Path(work, name).read_text().splitlines() for name in ("old", "new"))
         ]
         assert verdicts[0] == verdicts[1], "the verdicts differ"
-    each = [1000 * min(times) / len(verdicts[0]) for times in (ours, theirs)]
-    print(
-        f"{len(verdicts[0])} puzzles: {each[0]:.3f} ms of processors each, 0.6.0 without grades {each[1]:.3f}: {each[0] / each[1]:.2f} times, load {os.getloadavg()[0]:.0f}"
-    )
+    count = len(verdicts[0])
+    for (name, again), each in times.items():
+        what = "again with --resume" if again else "a first run"
+        print(f"{name}, {what}: {1000 * min(each) / count:.3f} ms of processors each")
+    ratio = min(times["new", False]) / min(times["old", False])
+    print(f"{count} puzzles: {ratio:.2f} times, load {os.getloadavg()[0]:.0f}")
 
 
 def main():

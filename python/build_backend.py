@@ -1,4 +1,5 @@
-"""Packs the wheel with Python's own library alone, so pip installs without a network: `build_wheel` is what pip calls (PEP 517)."""
+"""Packs the wheel with Python's own library alone, so pip installs without a network: `build_wheel`
+is what pip calls (PEP 517)."""
 
 import base64
 import hashlib
@@ -10,27 +11,30 @@ import zipfile
 from pathlib import Path
 
 HERE = Path(__file__).resolve().parent
-# The library of a system, and for Windows the program too. One of these lies beside the package, or c/build left the first.
-LIBRARIES = ("libnonobench.so", "nonobench.dll")
-PROGRAM = "nonobench.exe"
+# It lies beside the package, or c/build left it.
+LIBRARY = "libnonobench.so"
 # What the package has: code, and the parts of the report that an audit makes.
 CARRIED = (".py", ".html", ".css", ".js")
-# What is put below the folder of an environment: the recipes and their examples, where they lie beside this file.
+# What is put below the folder of an environment: the recipes and their examples, where they lie
+# beside this file.
 SHARED = "share"
 TAGS = "Wheel-Version: 1.0\nGenerator: nonobench\nRoot-Is-Purelib: {}\nTag: {}\n"
 METADATA = (
-    "Metadata-Version: 2.1\nName: {name}\nVersion: {version}\nSummary: {description}\nRequires-Python: {python}\n"
-    "Author: {author}\nLicense: {licence}\nKeywords: {keywords}\n"
+    "Metadata-Version: 2.1\nName: {name}\nVersion: {version}\nSummary:"
+    " {description}\nRequires-Python: {python}\nAuthor: {author}\nLicense: {licence}\nKeywords:"
+    " {keywords}\n"
 )
-# The first day that an archive can name: what is packed has this one, or that of SOURCE_DATE_EPOCH, so that its bytes are the same each time.
+# The first day that an archive can name: what is packed has this one, or that of SOURCE_DATE_EPOCH,
+# so that its bytes are the same each time.
 FIRST_DAY = 315532800
 
 
 def build_wheel(wheel_directory, config_settings=None, metadata_directory=None):
-    """Writes the wheel into a folder, and answers its name. The setting `platform` names the platform of a library that is packed."""
+    """Writes the wheel into a folder, and answers its name. The setting `platform` names the
+    platform of a library that is packed."""
     project = _project()
     files = _package()
-    is_pure = not any(f"nonobench/{library}" in files for library in LIBRARIES)
+    is_pure = f"nonobench/{LIBRARY}" not in files
     platform = (config_settings or {}).get("platform", sysconfig.get_platform())
     tag = "py3-none-" + ("any" if is_pure else re.sub(r"\W", "_", platform))
     title = "{name}-{version}".format(**project)
@@ -64,7 +68,8 @@ def build_wheel(wheel_directory, config_settings=None, metadata_directory=None):
 
 
 def _project():
-    """What pyproject.toml says of the package. Python reads that format from 3.11 on, so its lines are looked for."""
+    """What pyproject.toml says of the package. Python reads that format from 3.11 on, so its lines
+    are looked for."""
     text = (HERE / "pyproject.toml").read_text(encoding="utf-8")
     project = dict(
         re.findall(r'^(name|version|description|requires-python) = "(.*)"$', text, re.MULTILINE)
@@ -99,7 +104,8 @@ def _extra_lines(extras):
 
 
 def _package():
-    """The package's files by their places: the library is beside them, or c/build left it, or the system has it."""
+    """The package's files by their places: the library is beside them, or c/build left it, or the
+    system has it."""
     sources = HERE / "src" / "nonobench"
     files = [
         file
@@ -107,13 +113,10 @@ def _package():
         if file.suffix in CARRIED or file.name == "py.typed"
     ]
     packed = {file.relative_to(HERE / "src").as_posix(): file.read_bytes() for file in files}
-    binaries = [
-        place for place in (sources / name for name in (*LIBRARIES, PROGRAM)) if place.is_file()
-    ]
-    built = HERE.parent / "c" / "out" / LIBRARIES[0]
-    if not binaries and built.is_file():
-        binaries = [built]
-    return {**packed, **{f"nonobench/{place.name}": place.read_bytes() for place in binaries}}
+    for place in (sources / LIBRARY, HERE.parent / "c" / "out" / LIBRARY):
+        if place.is_file():
+            return {**packed, f"nonobench/{LIBRARY}": place.read_bytes()}
+    return packed
 
 
 def _entry(place):

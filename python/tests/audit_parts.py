@@ -1,5 +1,7 @@
-"""What the tests of nonobench-audit share: small puzzles worked by hand, a folder of their own, and runs of the program."""
+"""What the tests of nonobench-audit share: small puzzles worked by hand, a folder of their own, and
+runs of the program."""
 
+import io
 import json
 import os
 import subprocess
@@ -17,13 +19,15 @@ takes_long = unittest.skipIf(os.environ.get("SHORT"), os.environ.get("SHORT"))
 ROOT = Path(__file__).resolve().parent.parent.parent
 WHITE, BLACK, RED = (255, 255, 255), (0, 0, 0), (255, 0, 0)
 TRIPLES = {".": WHITE, "a": BLACK, "b": RED}
-# Black above white, white above red: rows 1a and 1b, columns 1a and 1b. No other picture has these clues.
+# Black above white, white above red: rows 1a and 1b, columns 1a and 1b. No other picture has these
+# clues.
 UNIQUE = ("a.", ".b")
 # Black on the diagonal, and on the other one: both have a block of 1 in each row and column.
 AMBIGUOUS = ("a.", ".a")
 OTHER = ".a/a."
 GIVEN_CERT = "nonocert 2\ngiven 1 1\nline r 1\nline c 1\nline r 2\ndone\n"
-# As in tests/cases/: two certificates of UNIQUE, the second with lemmas, and such ones of AMBIGUOUS with a cell given, and with all.
+# As in tests/cases/: two certificates of UNIQUE, the second with lemmas, and such ones of AMBIGUOUS
+# with a cell given, and with all.
 CERT = "nonocert 1\nline r 1\nsplit 1 1\nline c 1\ndead r 2\nline r 1\nline c 1\nline c 2\ndone\n"
 LEMMAS = "nonolemma 1\npart 1 1 a\nline r 1\ndead c 2\nline r 1\nline c 1\nline r 2\ndone\n"
 GIVEN_LEMMAS = "nonolemma 1\ngiven 1 1\nline r 1\nline c 1\nline r 2\ndone\n"
@@ -50,15 +54,35 @@ def webpbn(rows, title="", more="", kind="grid"):
 
 
 def chequered(side, colours):
-    """A picture with so many solutions, and so many colours on each of its lines, that no search ends in time."""
+    """A picture with so many solutions, and so many colours on each of its lines, that no search
+    ends in time."""
     letters = "abcdefghijklmno"[: colours - 1] + "."
     return [
         "".join(letters[(row + column) % colours] for column in range(side)) for row in range(side)
     ]
 
 
+def p3_of_letters(rows):
+    """A P3 text of rows of letters in colours that differ much."""
+    triples = {".": "255 255 255", **{chr(97 + at): f"{40 * at} 0 0" for at in range(7)}}
+    cells = "\n".join(triples[letter] for row in rows for letter in row)
+    return f"P3 {len(rows[0])} {len(rows)} 255\n{cells}\n".encode()
+
+
+def image(kind, mode="RGB", pixels=(BLACK, WHITE, WHITE, RED), size=(2, 2), **more):
+    """An image as Pillow writes it: by default the picture UNIQUE."""
+    from PIL import Image
+
+    made = Image.new(mode, size)
+    made.putdata(list(pixels))
+    file = io.BytesIO()
+    made.save(file, kind, **more)
+    return file.getvalue()
+
+
 class Case(unittest.TestCase):
-    """A test in a folder of its own, `self.folder`, with the collection in `self.folder / "site"`."""
+    """A test in a folder of its own, `self.folder`, with the collection in `self.folder /
+    "site"`."""
 
     def setUp(self):
         folder = tempfile.TemporaryDirectory()
@@ -75,12 +99,11 @@ class Case(unittest.TestCase):
         return place
 
     def words(self, *words):
-        """The command line of a run, apart from the folder that it runs in. Where no bound is named, no puzzle is too slow for it."""
-        is_bounded = {"merge", "--seconds", "--allow"}.intersection(words)
-        is_shared = {"merge", "--jobs"}.intersection(words)
+        """The command line of a run, apart from the folder that it runs in. Where no bound is
+        named, no puzzle is too slow for it."""
         more = [
-            *([] if is_bounded else ["--seconds", str(PATIENCE)]),
-            *([] if is_shared else ["--jobs", JOBS]),
+            *([] if {"unpack", "--seconds"}.intersection(words) else ["--seconds", str(PATIENCE)]),
+            *([] if {"unpack", "--jobs"}.intersection(words) else ["--jobs", JOBS]),
         ]
         return [sys.executable, "-m", "nonobench.audit", *map(str, words), *more]
 
@@ -92,13 +115,15 @@ class Case(unittest.TestCase):
             **more,
         }
 
-    def run_audit(self, *words, status=None, **more):
-        """A run: what it printed, what it said, and its status, which is looked at where it is given."""
+    def run_audit(self, *words, status=None, cwd=None, input=None, **more):
+        """A run: what it printed, what it said, and its status, which is looked at where it is
+        given."""
         done = subprocess.run(
             self.words(*words),
-            cwd=self.folder,
+            cwd=cwd or self.folder,
             env=self.env(**more),
             capture_output=True,
+            input=input,
             text=True,
             check=False,
             timeout=PATIENCE,
@@ -116,8 +141,7 @@ class Case(unittest.TestCase):
     def read(self, name):
         """The rows of a file, by their names."""
         lines = (self.folder / name).read_text().splitlines()
-        rows = map(json.loads, lines)
-        return {row["file"] + (f"#{row['puzzle']}" if "puzzle" in row else ""): row for row in rows}
+        return {row["file"]: row for row in map(json.loads, lines)}
 
     def start(self, *words, **more):
         """A run that goes on beside the test."""
@@ -137,7 +161,8 @@ class Case(unittest.TestCase):
 
 
 def eventually(look):
-    """What a look answers, once that is true: on a slow machine this takes longer, and does not fail."""
+    """What a look answers, once that is true: on a slow machine this takes longer, and does not
+    fail."""
     until = time.monotonic() + PATIENCE
     while not (found := look()):
         if time.monotonic() > until:

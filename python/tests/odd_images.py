@@ -1,10 +1,9 @@
 """Odd images, and what a reader has to say of each: python3 odd_images.py FOLDER writes them there.
 
-Each is made by hand of a picture whose pixels are known: an image that is read must have these, as a browser shows them. Pillow
-writes WebP and JPEG alone, and turns no sample of a picture.
+Each is made by hand of a picture whose pixels are known: an image that is read must have these, as
+a browser shows them.
 """
 
-import io
 import itertools
 import struct
 import sys
@@ -14,19 +13,16 @@ from math import floor
 from pathlib import Path
 from typing import NamedTuple, Optional
 
-BITS, PROFILE, GAMMA, FRAMES, SMALL, HALF, LOSSY, TURNED, SCALED = REASONS = (
+BITS, PROFILE, GAMMA, FRAMES, HALF, TURNED = REASONS = (
     "samples of 16 bits",
     "a colour profile",
     "a gamma",
     "several frames",
-    "a frame smaller than its screen",
     "half transparent",
-    "lossy",
     "turned by its orientation",
-    "scaled by its Exif",
 )
-BROKEN = (
-    "broken"  # refused too, since it is no whole image of its format, or of a kind that is not read
+BROKEN = (  # refused too, since it is no whole image of its format, or of a kind that is not read
+    "broken"
 )
 CLEAR = (0, 0, 0, 0)  # what is transparent has no other colour
 WHITE, BLACK, RED, BLUE = (255, 255, 255, 255), (0, 0, 0, 255), (255, 0, 0, 255), (0, 0, 200, 255)
@@ -41,7 +37,8 @@ SIZE = (5, 4)
 
 
 class Odd(NamedTuple):
-    """An image: its name, its bytes, and its pixels row by row where it is read, or else why it is refused."""
+    """An image: its name, its bytes, and its pixels row by row where it is read, or else why it is
+    refused."""
 
     name: str
     data: bytes
@@ -139,7 +136,8 @@ PLAIN_GAMMA = chunk(b"gAMA", struct.pack(">I", 45455))
 
 
 def png_samples(depth, kind):
-    """The rows of samples of the picture in a kind of PNG, the chunks that these need, and its pixels."""
+    """The rows of samples of the picture in a kind of PNG, the chunks that these need, and its
+    pixels."""
     most = 2**depth - 1
     levels = [0, most, most // 3 * 2, most // 3] if depth > 1 else [0, 1, 1, 0]
     greys = [(level * 255 // most,) * 3 + (255,) for level in levels]
@@ -180,7 +178,7 @@ def png_kinds():
     for (depth, kind), is_laced in itertools.product(KINDS, (False, True)):
         rows, more, pixels = png_samples(depth, kind)
         for filters in ((0,), (4, 3, 2, 1)):
-            name = f"png-{kind}-{depth}{'-laced' if is_laced else ''}{'-filtered' if len(filters) > 1 else ''}"
+            name = f"png-{kind}-{depth}{'-laced' if is_laced else ''}{'-filtered' if len(filters) > 1 else ''}"  # noqa: E501
             data = png(rows, depth, kind, more, is_laced, filters)
             yield Odd(name, data, None, BITS) if depth == 16 else Odd(name, data, pixels)
 
@@ -202,21 +200,6 @@ def png_clear():
                 None if depth == 16 else clear,
                 BITS if depth == 16 else "",
             )
-        if depth < 16:
-            scaled = chunk(b"tRNS", struct.pack(">H", 255))
-            yield Odd(
-                f"png-grey-{depth}-clear-255",
-                png(rows, depth, GREY, [scaled]),
-                None
-                if depth < 8
-                else shown(
-                    [
-                        pixel if pixel != WHITE else CLEAR
-                        for pixel in [BLACK, WHITE, (170, 170, 170, 255), (85, 85, 85, 255)]
-                    ]
-                ),
-                BROKEN if depth < 8 else "",
-            )
     rows, _, pixels = png_samples(8, RGB)
     for at, colour in enumerate(COLOURS):
         clear = [*COLOURS[:at], CLEAR, *COLOURS[at + 1 :]]
@@ -228,12 +211,6 @@ def png_clear():
         deep = [[tuple(257 * sample for sample in pixel) for pixel in row] for row in rows]
         key = chunk(b"tRNS", struct.pack(">3H", *(257 * sample for sample in colour[:3])))
         yield Odd(f"png-rgb-16-clear-{at}", png(deep, 16, RGB, [key]), None, BITS)
-    yield Odd(
-        "png-rgb-clear-high-byte",
-        png(rows, 8, RGB, [chunk(b"tRNS", struct.pack(">3H", 0x1FF, 0x200, 0x300))]),
-        None,
-        BROKEN,
-    )
     cross = [[(1, 2, 3), (0, 0, 0)], [(0, 0, 0), (1, 2, 3)]]
     yield Odd(
         "png-cross-16-clear",
@@ -269,17 +246,56 @@ def png_clear():
         yield Odd(f"png-rgba-half-{opacity}", png(half, 8, RGBA), None, HALF)
 
 
+# Colorants of sRGB, and of Adobe's RGB, for the white of D50; and curves.
+XYZ = ((0.4361, 0.2225, 0.0139), (0.3851, 0.7169, 0.0971), (0.1431, 0.0606, 0.7139))
+WIDE_XYZ = ((0.6097, 0.3111, 0.0195), (0.2053, 0.6257, 0.0609), (0.1492, 0.0632, 0.7446))
+FORMULA = (2.4, 1 / 1.055, 0.055 / 1.055, 1 / 12.92, 0.04045)
+
+
+def fixed(*numbers):
+    return struct.pack(f">{len(numbers)}i", *(round(65536 * number) for number in numbers))
+
+
+CURVE = b"para\0\0\0\0\0\3\0\0" + fixed(*FORMULA)
+STRAIGHT = b"curv\0\0\0\0" + struct.pack(">I3H", 3, 0, 32768, 65535)
+
+
+def profile_of(colorants, curve):
+    """A colour profile of colorants, and one curve for all of them."""
+    names = (b"rXYZ", b"gXYZ", b"bXYZ", b"rTRC", b"gTRC", b"bTRC")
+    bodies = [b"XYZ \0\0\0\0" + fixed(*values) for values in colorants] + [curve] * 3
+    at, table = 132 + 12 * len(names), b""
+    for name, body in zip(names, bodies):
+        table += struct.pack(">4sII", name, at, len(body))
+        at += len(body)
+    head = bytes(12) + b"mntrRGB XYZ " + bytes(104)
+    return head + struct.pack(">I", len(names)) + table + b"".join(bodies)
+
+
+def by_tables():
+    """The profile of sRGB with tables, as older ones have them."""
+    gamma, a, b, c, d = FORMULA
+    light = (at * c if at < d else (a * at + b) ** gamma for at in (n / 1023 for n in range(1024)))
+    table = struct.pack(">1024H", *(round(65535 * value) for value in light))
+    curve = b"curv\0\0\0\0" + struct.pack(">I", 1024) + table
+    return chunk(b"iCCP", b"p\0\0" + zlib.compress(profile_of(XYZ, curve)))
+
+
 def png_colours():
     """Chunks that say how colours are meant."""
     rows, _, pixels = png_samples(8, RGB)
     profile = chunk(b"iCCP", b"p\0\0" + zlib.compress(bytes(128)))
+    srgb, wide, plain = (
+        chunk(b"iCCP", b"p\0\0" + zlib.compress(profile_of(*words)))
+        for words in ((XYZ, CURVE), (WIDE_XYZ, CURVE), (XYZ, STRAIGHT))
+    )
     coded = chunk(b"cICP", bytes([9, 16, 0, 1]))
     for name, more, reason in (
         ("srgb", [SRGB], ""),
         ("gamma-plain", [PLAIN_GAMMA], ""),
         ("srgb-gamma-plain", [SRGB, PLAIN_GAMMA], ""),
         ("srgb-gamma-primaries", [SRGB, PLAIN_GAMMA, PRIMARIES], ""),
-        ("gamma-primaries", [PLAIN_GAMMA, PRIMARIES], PROFILE),
+        ("gamma-primaries", [PLAIN_GAMMA, PRIMARIES], ""),
         ("primaries", [PRIMARIES], ""),
         ("gamma-others", [PLAIN_GAMMA, OTHERS], PROFILE),
         ("others", [OTHERS], ""),
@@ -290,9 +306,13 @@ def png_colours():
         ("gamma-0", [chunk(b"gAMA", struct.pack(">I", 0))], GAMMA),
         ("srgb-gamma-1000", [SRGB, chunk(b"gAMA", struct.pack(">I", 1000))], GAMMA),
         ("gamma-1000-primaries", [chunk(b"gAMA", struct.pack(">I", 1000)), PRIMARIES], GAMMA),
-        ("gamma-short", [chunk(b"gAMA", b"\1")], GAMMA),
+        ("gamma-short", [chunk(b"gAMA", b"\1")], BROKEN),
         ("profile", [profile], PROFILE),
         ("srgb-profile", [SRGB, profile], PROFILE),
+        ("profile-of-srgb", [srgb], ""),
+        ("profile-of-srgb-by-tables", [by_tables()], ""),
+        ("profile-of-others", [wide], PROFILE),
+        ("profile-of-another-curve", [plain], PROFILE),
         ("coded", [coded], PROFILE),
         ("bits", [chunk(b"sBIT", bytes([5, 6, 5]))], ""),
         ("background", [chunk(b"bKGD", struct.pack(">3H", 1, 2, 3))], ""),
@@ -304,24 +324,11 @@ def png_colours():
         ("turned", [chunk(b"eXIf", exif(6))], TURNED),
         ("turned-intel", [chunk(b"eXIf", exif(3, "<"))], TURNED),
         ("upright", [chunk(b"eXIf", exif(1))], ""),
-        ("turned-within", [chunk(b"eXIf", TURNED_WITHIN)], TURNED),
         ("upright-intel", [chunk(b"eXIf", exif(1, "<"))], ""),
-        ("gamma-twice", [PLAIN_GAMMA, chunk(b"gAMA", struct.pack(">I", 1000))], GAMMA),
+        ("gamma-twice", [PLAIN_GAMMA, chunk(b"gAMA", struct.pack(">I", 1000))], BROKEN),
         ("srgb-4", [chunk(b"sRGB", b"\4"), PLAIN_GAMMA, OTHERS], BROKEN),
         ("srgb-long", [chunk(b"sRGB", bytes(2)), PLAIN_GAMMA, OTHERS], BROKEN),
         ("srgb-last", [PLAIN_GAMMA, OTHERS, SRGB], ""),
-        ("sized", [chunk(b"eXIf", sized(5, 4, 72, 72))], ""),
-        ("sized-intel", [chunk(b"eXIf", sized(5, 4, 144, 144, "<"))], ""),
-        ("exif-twice", [chunk(b"eXIf", exif(1))] * 2, BROKEN),
-        ("rows-twice", [chunk(b"iDOT", bytes(28))], BROKEN),
-        *(
-            (
-                f"scaled-{wide}-{high}",
-                [chunk(b"eXIf", sized(wide, high, 72 * 5 // wide, 72 * 4 // high, order))],
-                SCALED,
-            )
-            for wide, high, order in ((10, 8, "<"), (5, 2, ">"), (1, 4, ">"), (10, 4, "<"))
-        ),
         (
             "luminance",
             [chunk(b"mDCV", bytes(24)), chunk(b"cLLI", struct.pack(">2I", 10000000, 4000000))],
@@ -331,7 +338,7 @@ def png_colours():
         yield Odd(f"png-{name}", png(rows, 8, RGB, more), None if reason else pixels, reason)
     for name, end, reason in (
         ("srgb", SRGB, BROKEN),
-        ("profile", profile, PROFILE),
+        ("profile", profile, BROKEN),
         ("turned", chunk(b"eXIf", exif(8)), TURNED),
     ):
         yield Odd(
@@ -344,7 +351,7 @@ def png_colours():
     for name, more, reason in (
         ("primaries", [PRIMARIES], ""),
         ("others", [OTHERS], PROFILE),
-        ("both", [PRIMARIES, OTHERS], PROFILE),
+        ("both", [PRIMARIES, OTHERS], BROKEN),
     ):
         yield Odd(
             f"png-corners-{name}",
@@ -359,7 +366,7 @@ def png_colours():
     clear = chunk(b"tRNS", b"\0")
     for name, colours, reason in (
         ("clear", [(9, 9, 9), (255, 0, 255)], ""),
-        ("near", [(9, 9, 9), (255, 0, 254)], PROFILE),
+        ("near", [(9, 9, 9), (254, 254, 254)], PROFILE),
     ):
         data = png(black, 8, INDEXED, [PLAIN_GAMMA, PRIMARIES, palette_chunk(colours), clear])
         yield Odd(
@@ -378,7 +385,7 @@ def png_colours():
         shown(COLOURS),
     )
     ground = chunk(b"bKGD", b"\1")
-    for name, more, reason in (("", [PALETTE, ground], ""), ("-first", [ground, PALETTE], BROKEN)):
+    for name, more, reason in (("", [PALETTE, ground], ""),):
         yield Odd(
             f"png-background-palette{name}",
             png(*png_samples(8, INDEXED)[:1], 8, INDEXED, more),
@@ -395,67 +402,10 @@ def png_colours():
     )
 
 
-# Exif with an orientation of 6, whose first byte ends, with the odd entry before it, what looks like an orientation of 1.
-TURNED_WITHIN = (
-    b"MM\0*"
-    + struct.pack(">IHHHII", 8, 2, 0x111, 1, 0x12000300, 0x100)
-    + struct.pack(">HHIHHI", 0x112, 3, 1, 6, 0, 0)
-)
-
-
 def exif(number, order=">"):
     """Exif with an orientation alone."""
     mark = b"MM\0*" if order == ">" else b"II*\0"
     return mark + struct.pack(f"{order}IHHHIHHI", 8, 1, 0x112, 3, 1, number, 0, 0)
-
-
-def sized(columns, rows, across, down, order=">"):
-    """Exif with a size, and so many pixels an inch: where these make the one of the other, Firefox shows a PNG in that size."""
-    mark = b"MM\0*" if order == ">" else b"II*\0"
-    front = struct.pack(
-        f"{order}IHHHIIHHIIHHIHHHHIII",
-        8,
-        4,
-        0x11A,
-        5,
-        1,
-        92,
-        0x11B,
-        5,
-        1,
-        100,
-        0x128,
-        3,
-        1,
-        2,
-        0,
-        0x8769,
-        4,
-        1,
-        62,
-        0,
-    )
-    return (
-        mark
-        + front
-        + struct.pack(
-            f"{order}HHHIIHHIII4I",
-            2,
-            0xA002,
-            4,
-            1,
-            columns,
-            0xA003,
-            4,
-            1,
-            rows,
-            0,
-            across,
-            1,
-            down,
-            1,
-        )
-    )
 
 
 def png_frames():
@@ -484,11 +434,6 @@ def png_frames():
     )
 
 
-BEHIND = (
-    b"x\x9cc\xf8\xf6\xee\r\1\5\xae\2\xd1"  # a row of one pixel, and then a distance too far back
-)
-
-
 def png_broken():
     """Palettes with holes, and files that are no PNG."""
     rows, more, _ = png_samples(8, INDEXED)
@@ -503,17 +448,11 @@ def png_broken():
         ("two-palettes", png(rows, 8, INDEXED, [few, PALETTE])),
         ("hole-4", png(rows, 4, INDEXED, [few])),
         ("hole-clear", png(rows, 8, INDEXED, [few, chunk(b"tRNS", bytes([255] * 3 + [0]))])),
-        ("palette-long", png([[(cell % 2,) for cell in row] for row in CELLS], 1, INDEXED, more)),
-        ("palette-torn", png(rows, 8, INDEXED, [chunk(b"PLTE", bytes(13))])),
         ("palette-empty", png(rows, 8, INDEXED, [chunk(b"PLTE")])),
-        ("suggested-empty", png(rgb, 8, RGB, [chunk(b"PLTE")])),
         ("clear-first", png(rows, 8, INDEXED, [clear, PALETTE])),
         ("clear-twice", png(rows, 8, INDEXED, [PALETTE, clear, clear])),
         ("clear-late", png(rows, 8, INDEXED, more, end=clear + chunk(b"IEND"))),
-        ("clear-long", png(rows, 8, INDEXED, [*more, chunk(b"tRNS", bytes(5))])),
         ("clear-short", png(rgb, 8, RGB, [chunk(b"tRNS", bytes(4))])),
-        ("clear-alpha", png(png_samples(8, RGBA)[0], 8, RGBA, [chunk(b"tRNS", bytes(6))])),
-        ("palette-grey", png(png_samples(8, GREY)[0], 8, GREY, [PALETTE])),
         ("palette-late", png(rows, 8, INDEXED, end=PALETTE + chunk(b"IEND"))),
         ("sum", good[: at + 8] + bytes([good[at + 8] ^ 1]) + good[at + 9 :]),
         ("sum-clear", png(rows, 8, INDEXED, [*more, clear[:-1] + b"\7"])),
@@ -529,21 +468,7 @@ def png_broken():
         ("filter", png(rgb, 8, RGB, filters=(0, 5))),
         ("empty", png(rgb, 8, RGB, size=(0, 4))),
         ("head-twice", png(rgb, 8, RGB, [good[8:33]])),
-        ("digit", png(rgb, 8, RGB, [chunk(b"a1Cd")])),
-        ("reserved", png(rgb, 8, RGB, [chunk(b"abcd")])),
         ("no-letter", png(rgb, 8, RGB, [chunk(b"abC\xff")])),
-        # Data that goes wrong behind the last row: Chromium shows nothing of the row.
-        (
-            "behind",
-            b"".join(
-                (
-                    good[:8],
-                    chunk(b"IHDR", struct.pack(">IIBBBBB", 1, 1, 8, RGB, 0, 0, 0)),
-                    chunk(b"IDAT", BEHIND),
-                    chunk(b"IEND"),
-                )
-            ),
-        ),
         (
             "gap",
             good[: at - 4]
@@ -555,34 +480,13 @@ def png_broken():
         yield Odd(f"png-broken-{name}", data, None, BROKEN)
     yield Odd("png-more", good + b"more", shown(COLOURS))
     whole = zlib.compress(b"".join(b"\0" + bytes(row) for row in CELLS))
-    for name, packed_rows in (
-        ("sum-of-rows", whole[:-1] + bytes([whole[-1] ^ 1])),
-        ("rows-without-end", whole[:-4]),
-    ):
+    for name, packed_rows in (("sum-of-rows", whole[:-1] + bytes([whole[-1] ^ 1])),):
         yield Odd(
             f"png-{name}",
             good[: at - 4] + chunk(b"IDAT", packed_rows) + chunk(b"IEND"),
             None,
             BROKEN,
         )
-    # A picture of two rows again and again, whose data goes back further than it says: not all browsers keep so much of it.
-    far = b"".join(
-        b"\0" + bytes(255 * (at * at % 7 < 3) for at in range(120 * row, 120 * row + 120))
-        for row in (0, 1) * 60
-    )
-    for name, window in (("short", 8), ("long", 15)):
-        coded = zlib.compress(far) if window == 15 else b"\x08\x1d" + zlib.compress(far)[2:]
-        data = (
-            good[:8]
-            + chunk(b"IHDR", struct.pack(">IIBBBBB", 120, 120, 8, GREY, 0, 0, 0))
-            + chunk(b"IDAT", coded)
-            + chunk(b"IEND")
-        )
-        greys = [
-            [(sample,) * 3 + (255,) for sample in far[121 * row + 1 : 121 * row + 121]]
-            for row in range(120)
-        ]
-        yield Odd(f"png-window-{name}", data, *([greys] if window == 15 else [None, BROKEN]))
     yield Odd("png-no-data", good[: at - 4] + chunk(b"IDAT") + chunk(b"IEND"), None, BROKEN)
     yield Odd("png-more-rows", png(rgb + rgb, 8, RGB, size=(5, 4)), shown(COLOURS))
     body = good[at + 4 : at + 4 + struct.unpack(">I", good[at - 4 : at])[0]]
@@ -590,463 +494,8 @@ def png_broken():
     yield Odd("png-parts", good[: at - 4] + parts + chunk(b"IDAT") + chunk(b"IEND"), shown(COLOURS))
 
 
-# GIF
-
-
-def codes(numbers, least, has_end=True):
-    """LZW data without any repeat: a code for each number, and room is made before codes grow."""
-    clear = 1 << least
-    words = [clear]
-    for at, number in enumerate(numbers):
-        words += [clear] if at and at % (clear - 2) == 0 else []
-        words.append(number)
-    bits = "".join(
-        f"{word:0{least + 1}b}"[::-1] for word in [*words, *([clear + 1] if has_end else [])]
-    )
-    data = bytes(int(bits[at : at + 8].ljust(8, "0")[::-1], 2) for at in range(0, len(bits), 8))
-    return (
-        bytes([least])
-        + b"".join(
-            bytes([len(part)]) + part
-            for part in (data[at : at + 255] for at in range(0, len(data), 255))
-        )
-        + b"\0"
-    )
-
-
-def control(key=None, disposal=0):
-    return struct.pack("<BBBBHBB", 0x21, 0xF9, 4, disposal << 2 | (key is not None), 0, key or 0, 0)
-
-
-def frame(cells=CELLS, at=(0, 0), size=SIZE, table=None, is_laced=False, least=2, **more):
-    """A frame of a GIF."""
-    if is_laced:
-        cells = [row for top, step in ((0, 8), (4, 8), (2, 4), (1, 2)) for row in cells[top::step]]
-    colours = b"" if table is None else bytes(sample for colour in table for sample in colour[:3])
-    flags = is_laced << 6 | (0 if table is None else 0x80 | (len(table).bit_length() - 2))
-    return (
-        struct.pack("<B4HB", 0x2C, *at, *size, flags)
-        + colours
-        + codes([cell for row in cells for cell in row], least, **more)
-    )
-
-
-def gif(*parts, size=SIZE, table=COLOURS, ground=0, end=b";", version=b"89a"):
-    """A GIF of blocks."""
-    flags = 0 if table is None else 0x80 | (len(table).bit_length() - 2)
-    colours = bytes(sample for colour in table or [] for sample in colour[:3])
-    return (
-        b"GIF"
-        + version
-        + struct.pack("<2H3B", *size, flags, ground, 0)
-        + colours
-        + b"".join(parts)
-        + end
-    )
-
-
-def gifs():
-    """GIF: interlaced, transparent, with offsets, several frames, tables of its own and none."""
-    pixels = shown(COLOURS)
-    swapped = [COLOURS[at] for at in (3, 2, 1, 0)]
-    tall = CELLS * 5
-    loop = b"\x21\xff\x0bNETSCAPE2.0\x03\x01\0\0\0"
-    profile = b"\x21\xff\x0bICCRGBG1012\x03abc\0"
-    black = frame([[0]], size=(1, 1))
-    for name, data, wanted in (
-        ("plain", gif(frame()), pixels),
-        ("87a", gif(frame(), version=b"87a"), pixels),
-        ("laced", gif(frame(is_laced=True)), pixels),
-        (
-            "laced-tall",
-            gif(frame(tall, size=(5, 20), is_laced=True), size=(5, 20)),
-            shown(COLOURS, tall),
-        ),
-        ("table", gif(frame(table=swapped)), shown(swapped)),
-        ("table-alone", gif(frame(table=swapped), table=None), shown(swapped)),
-        ("comment", gif(b"\x21\xfe\x03abc\0", frame()), pixels),
-        ("loop", gif(loop, frame()), pixels),
-        ("loop-buffered", gif(loop[:-1] + b"\5\2\0\0\1\0\0", frame()), pixels),
-        ("loop-odd", gif(loop.replace(b"\3\1", b"\3\5"), frame()), BROKEN),
-        ("loop-odd-last", gif(frame(), loop[:-1] + b"\3\0\0\0\0"), BROKEN),
-        ("loop-none", gif(loop[:14] + b"\0", frame()), BROKEN),
-        ("loop-short", gif(loop[:-1] + b"\1\1\0", frame()), BROKEN),
-        ("ground", gif(frame(), ground=2), pixels),
-        ("wide-codes", gif(frame(least=8)), pixels),
-        ("wide-codes-hole", gif(frame([[4] * 5] * 4, least=8)), BROKEN),
-        ("more", gif(frame()) + b"more", pixels),
-        ("no-end", gif(frame(), end=b""), BROKEN),
-        ("no-stop", gif(frame(has_end=False)), pixels),
-        ("profile", gif(profile, frame()), PROFILE),
-        ("control-last", gif(frame(), control(0)), pixels),
-        (
-            "text",
-            gif(b"\x21\x01\x0c" + struct.pack("<4H4B", 0, 0, 5, 4, 1, 1, 1, 0) + b"\1x\0", frame()),
-            pixels,
-        ),
-        ("frames", gif(frame(), frame()), FRAMES),
-        ("frames-small", gif(frame(), black), FRAMES),
-        ("frames-first-small", gif(black, frame()), FRAMES),
-        ("frames-loop", gif(loop, control(0, 2), frame(), control(1, 2), frame()), FRAMES),
-        ("small", gif(frame(), size=(6, 6)), SMALL),
-        ("small-wide", gif(frame(), size=(6, 4)), SMALL),
-        ("small-clear", gif(control(1), frame(), size=(5, 5)), SMALL),
-        ("offset", gif(frame([row[:4] for row in CELLS], (1, 0), (4, 4))), SMALL),
-        ("offset-out", gif(frame(at=(1, 1))), SMALL),
-        ("dot", gif(black), SMALL),
-        ("cross", gif(frame([[0, 1], [1, 0]], size=(2, 2)), size=(3, 3)), SMALL),
-        ("large", gif(frame(), size=(3, 3)), BROKEN),
-        ("large-high", gif(frame(), size=(5, 3)), BROKEN),
-        ("no-size", gif(frame(), size=(0, 0)), BROKEN),
-        ("no-table", gif(frame(), table=None), BROKEN),
-        ("hole", gif(frame(), table=COLOURS[:2]), BROKEN),
-        ("stopped", gif(frame([row[:] for row in CELLS[:2]])), BROKEN),
-        ("stopped-unsaid", gif(frame(CELLS[:2], has_end=False)), BROKEN),
-        ("more-rows", gif(frame(CELLS * 2)), pixels),
-        ("cut", gif(frame())[:-9], BROKEN),
-        ("no-frame", gif(), BROKEN),
-        ("sign", b"GIF89a", BROKEN),
-        ("odd-block", gif(b"\x77", frame()), BROKEN),
-        ("control-long", gif(b"\x21\xf9\x05\1\0\0\0\0\0", frame()), BROKEN),
-        ("hole-of-its-own", gif(frame(table=COLOURS[:2])), BROKEN),
-        ("codes-0", gif(frame().replace(b"\x02\x0c", b"\x00\x0c", 1)), BROKEN),
-        ("codes-12", gif(frame(least=12)), BROKEN),
-        ("two-controls", gif(control(0), control(1), frame()), BROKEN),
-        ("control-twice", gif(control(0)[:-1] + control(1)[2:], frame()), BROKEN),
-    ):
-        yield Odd(f"gif-{name}", data, *([wanted] if isinstance(wanted, list) else [None, wanted]))
-    for key in (0, 1, 3, 9):
-        clear = [CLEAR if at == key else colour for at, colour in enumerate(COLOURS)]
-        for disposal in range(4):
-            yield Odd(
-                f"gif-clear-{key}-{disposal}", gif(control(key, disposal), frame()), shown(clear)
-            )
-        yield Odd(
-            f"gif-clear-{key}-laced",
-            gif(control(key), frame(is_laced=True), ground=key),
-            shown(clear),
-        )
-
-
-# BMP
-
-
-def bmp(
-    rows,
-    bits,
-    palette=(),
-    size=SIZE,
-    head=40,
-    method=0,
-    masks=b"",
-    is_down=False,
-    body=None,
-    space=b"",
-    used=None,
-    gap=0,
-):
-    """A BMP of rows of numbers or of bytes of pixels."""
-    if body is None:
-        lines = [b"".join(row) if isinstance(row[0], bytes) else packed(row, bits) for row in rows]
-        body = b"".join(
-            line + bytes(-len(line) % 4) for line in (lines if is_down else reversed(lines))
-        )
-    if head == 12:
-        told = struct.pack("<I4H", 12, *size, 1, bits)
-        table = b"".join(bytes(colour[2::-1]) for colour in palette)
-    else:
-        high = -size[1] if is_down else size[1]
-        told = struct.pack(
-            "<IiiHHIIiiII",
-            head,
-            size[0],
-            high,
-            1,
-            bits,
-            method,
-            len(body),
-            2835,
-            2835,
-            len(palette) if used is None else used,
-            0,
-        )
-        told += (masks + space)[: head - 40].ljust(head - 40, b"\0") if head > 40 else masks
-        table = b"".join(bytes(colour[2::-1]) + b"\0" for colour in palette)
-    start = 14 + len(told) + len(table) + gap
-    return (
-        b"BM"
-        + struct.pack("<IHHI", start + len(body), 0, 0, start)
-        + told
-        + table
-        + bytes(gap)
-        + body
-    )
-
-
-def mask(*values):
-    return struct.pack(f"<{len(values)}I", *values)
-
-
-BGRA = mask(0xFF0000, 0xFF00, 0xFF, 0xFF000000)
-BGRX = mask(0xFF0000, 0xFF00, 0xFF)
-
-
-def runs(is_short):
-    """The picture by runs of 8 or of 4 bits."""
-    body = b""
-    for row in reversed(CELLS):
-        body += b"".join(bytes([1, cell << 4 if is_short else cell]) for cell in row) + b"\0\0"
-    return body + b"\0\1"
-
-
-def bmps():
-    """BMP of each depth, upright or top-down, with masks, runs and opacity."""
-    pixels = shown(COLOURS)
-    two = [[cell % 2 for cell in row] for row in CELLS]
-    triples = [[bytes(COLOURS[cell][2::-1]) for cell in row] for row in CELLS]
-    for head, is_down in (
-        (12, False),
-        (40, False),
-        (40, True),
-        (108, False),
-        (124, False),
-        (124, True),
-    ):
-        space = b"BGRs" if head > 40 else b""
-        masks = BGRA if head > 40 else b""
-        name = f"{head}{'-down' if is_down else ''}"
-        more = {"head": head, "is_down": is_down, "space": space, "masks": masks}
-        yield Odd(f"bmp-1-{name}", bmp(two, 1, COLOURS[:2], **more), shown(COLOURS, two))
-        for bits in (4, 8):
-            yield Odd(
-                f"bmp-{bits}-{name}",
-                bmp(
-                    CELLS,
-                    bits,
-                    COLOURS if head > 12 else [*COLOURS, *[BLACK] * (2**bits - 4)],
-                    **more,
-                ),
-                pixels,
-            )
-        yield Odd(f"bmp-24-{name}", bmp(triples, 24, **more), pixels)
-        if head > 12:
-            quads = [[one + b"\0" for one in row] for row in triples]
-            yield Odd(
-                f"bmp-32-{name}",
-                bmp(quads, 32, **more),
-                *([pixels] if head == 40 else [None, BROKEN]),
-            )
-    yield Odd("bmp-8-64", bmp(CELLS, 8, COLOURS, head=64), pixels)
-    for head in (52, 56, 64):
-        yield Odd(
-            f"bmp-24-{head}",
-            bmp(triples, 24, head=head),
-            pixels if head == 64 else None,
-            "" if head == 64 else BROKEN,
-        )
-    short = [
-        [
-            struct.pack("<H", (c[0] >> 3) << 10 | (c[1] >> 3) << 5 | c[2] >> 3)
-            for c in (COLOURS[cell] for cell in row)
-        ]
-        for row in CELLS
-    ]
-    yield Odd("bmp-16", bmp(short, 16), None, BROKEN)
-    yield Odd("bmp-16-565", bmp(short, 16, method=3, masks=mask(0xF800, 0x7E0, 0x1F)), None, BROKEN)
-    for name, alpha in (("clear", 0), ("half", 128), ("full", 255), ("mixed", None)):
-        quads = [
-            [
-                one + bytes([alpha if alpha is not None else 255 * (cell != 2)])
-                for one, cell in zip(*both)
-            ]
-            for both in zip(triples, CELLS)
-        ]
-        yield Odd(f"bmp-32-{name}", bmp(quads, 32), pixels)
-        yield Odd(f"bmp-32-masks-{name}", bmp(quads, 32, method=3, masks=BGRX), None, BROKEN)
-        for head in (56, 108, 124):
-            yield Odd(
-                f"bmp-32-masks-{name}-{head}",
-                bmp(quads, 32, head=head, method=3, masks=BGRA, space=b"BGRs"),
-                None,
-                BROKEN,
-            )
-        yield Odd(
-            f"bmp-32-{name}-124", bmp(quads, 32, head=124, masks=BGRA, space=b"BGRs"), None, BROKEN
-        )
-    for bits, method in ((8, 1), (4, 2)):
-        yield Odd(
-            f"bmp-runs-{bits}",
-            bmp([], bits, COLOURS, method=method, body=runs(bits == 4)),
-            None,
-            BROKEN,
-        )
-        yield Odd(
-            f"bmp-runs-{bits}-skips",
-            bmp([], bits, COLOURS, method=method, body=b"\0\2\1\1\1\0\0\1"),
-            None,
-            BROKEN,
-        )
-    for name, space in (
-        ("calibrated", bytes(4)),
-        ("windows", b" niW"),
-        ("linked", b"KNIL"),
-        ("embedded", b"DEBM"),
-    ):
-        yield Odd(
-            f"bmp-24-{name}",
-            bmp(triples, 24, head=124, masks=BGRA, space=space),
-            *([pixels] if name == "windows" else [None, PROFILE]),
-        )
-    good, old = bmp(CELLS, 8, COLOURS), bmp(triples, 24, head=12)
-    true = [
-        (24, bmp(triples, 24)),
-        (32, bmp([[one + b"\0" for one in row] for row in triples], 32)),
-    ]
-    for name, data in (
-        ("hole", bmp(CELLS, 8, COLOURS[:3])),
-        ("cut", good[:-9]),
-        ("sign", b"BM"),
-        ("head", good[:40]),
-        ("empty", bmp([], 8, COLOURS, size=(0, 0))),
-        ("png", bmp([], 0, method=5, body=b"x")),
-        ("start", good[:10] + struct.pack("<I", 54) + good[14:]),
-        ("start-0", good[:10] + bytes(4) + good[14:]),
-        *(
-            (f"start-{at}-{bits}", whole[:10] + struct.pack("<I", at) + whole[14:] + bytes(60))
-            for bits, whole in true
-            for at in (0, 14, 53)
-        ),
-        ("start-12", old[:10] + struct.pack("<I", 20) + old[14:] + bytes(60)),
-        ("wide", good[:18] + struct.pack("<i", -5) + good[22:]),
-        ("high", good[:22] + struct.pack("<i", -(2**31)) + good[26:]),
-        ("bits-2", bmp(CELLS, 2, COLOURS)),
-        ("used", bmp(CELLS, 8, COLOURS, used=3)),
-        ("used-many", bmp(CELLS, 8, COLOURS, used=1 << 30)),
-    ):
-        yield Odd(f"bmp-broken-{name}", data, None, BROKEN)
-    yield Odd("bmp-gap", bmp(CELLS, 8, COLOURS, gap=12), pixels)
-    yield Odd("bmp-more", good + b"more", pixels)
-
-
-# WebP, JPEG
-
-
-def riff(*chunks):
-    body = b"".join(
-        kind + struct.pack("<I", len(data)) + data + bytes(len(data) % 2) for kind, data in chunks
-    )
-    return b"RIFF" + struct.pack("<I", len(body) + 4) + b"WEBP" + body
-
-
-def webp_parts(data):
-    """The chunks of a WebP."""
-    at, found = 12, []
-    while at < len(data):
-        size = struct.unpack("<I", data[at + 4 : at + 8])[0]
-        found.append((data[at : at + 4], data[at + 8 : at + 8 + size]))
-        at += 8 + size + size % 2
-    return found
-
-
-def by_pillow(kind, mode="RGB", colours=COLOURS, **more):
-    from PIL import Image
-
-    image = Image.new(mode, SIZE)
-    image.putdata([colours[cell][: len(mode)] for row in CELLS for cell in row])
-    file = io.BytesIO()
-    image.save(file, kind, **more)
-    return file.getvalue()
-
-
-def webps():
-    """WebP: lossless and lossy, animated, with profiles, and what is said of a canvas."""
-    from PIL import Image
-
-    plain = by_pillow("WEBP", lossless=True)
-    clear_colours = [WHITE, BLACK, RED, (0, 0, 200, 0)]
-    clear = by_pillow("WEBP", "RGBA", clear_colours, lossless=True, exact=True)
-    half = by_pillow("WEBP", "RGBA", [WHITE, BLACK, RED, (0, 0, 200, 99)], lossless=True)
-    first = Image.new("RGB", SIZE)
-    file = io.BytesIO()
-    first.save(
-        file, "WEBP", save_all=True, append_images=[Image.new("RGB", SIZE, "red")], lossless=True
-    )
-    pixels = shown(COLOURS)
-    (stream,) = [body for kind, body in webp_parts(plain) if kind == b"VP8L"]
-    (clear_stream,) = [body for kind, body in webp_parts(clear) if kind == b"VP8L"]
-
-    def canvas(flags=0, size=SIZE):
-        return b"VP8X", bytes([flags, 0, 0, 0]) + (size[0] - 1).to_bytes(3, "little") + (
-            size[1] - 1
-        ).to_bytes(3, "little")
-
-    one = (
-        b"ANMF",
-        bytes(6)
-        + (4).to_bytes(3, "little")
-        + (3).to_bytes(3, "little")
-        + bytes(4)
-        + b"VP8L"
-        + struct.pack("<I", len(stream))
-        + stream
-        + bytes(len(stream) % 2),
-    )
-    turned, upright = ((b"EXIF", exif(number)) for number in (6, 1))
-    odd = riff(canvas(), (b"VP8L", stream), (b"ABCD", b"xyz"))
-    for name, data, wanted in (
-        ("plain", plain, pixels),
-        ("clear", clear, shown([WHITE, BLACK, RED, CLEAR])),
-        ("half", half, HALF),
-        ("lossy", by_pillow("WEBP", quality=100), LOSSY),
-        ("lossy-clear", by_pillow("WEBP", "RGBA", clear_colours, quality=100), LOSSY),
-        ("animated", file.getvalue(), FRAMES),
-        ("canvas", riff(canvas(), (b"VP8L", stream)), pixels),
-        (
-            "canvas-clear",
-            riff(canvas(16), (b"VP8L", clear_stream)),
-            shown([WHITE, BLACK, RED, CLEAR]),
-        ),
-        ("canvas-opaque", riff(canvas(), (b"VP8L", clear_stream)), BROKEN),
-        ("canvas-large", riff(canvas(size=(9, 9)), (b"VP8L", stream)), BROKEN),
-        ("profile", riff(canvas(32), (b"ICCP", bytes(128)), (b"VP8L", stream)), PROFILE),
-        ("profile-unsaid", riff(canvas(), (b"ICCP", bytes(128)), (b"VP8L", stream)), PROFILE),
-        ("one-frame", riff(canvas(2), (b"ANIM", bytes(6)), one), FRAMES),
-        ("one-frame-unsaid", riff(canvas(), (b"ANIM", bytes(6)), one), FRAMES),
-        ("turned", riff(canvas(8), (b"VP8L", stream), turned), TURNED),
-        ("turned-within", riff(canvas(8), (b"VP8L", stream), (b"EXIF", TURNED_WITHIN)), TURNED),
-        ("upright", riff(canvas(8), (b"VP8L", stream), upright), pixels),
-        ("sized", riff(canvas(8), (b"VP8L", stream), (b"EXIF", sized(5, 4, 72, 72))), pixels),
-        ("exif-twice", riff(canvas(8), (b"VP8L", stream), upright, upright), BROKEN),
-        ("scaled", riff(canvas(8), (b"VP8L", stream), (b"EXIF", sized(10, 8, 36, 36))), SCALED),
-        ("opacity", riff(canvas(16), (b"ALPH", bytes(9)), (b"VP8L", stream)), LOSSY),
-        ("no-size", riff((b"VP8L", stream[:3])), BROKEN),
-        ("cut", plain[:-9], BROKEN),
-        ("sign", plain[:12], BROKEN),
-        ("more", plain + b"more", pixels),
-        ("two", riff((b"VP8L", stream), (b"VP8L", clear_stream)), None),
-        ("unknown", riff(canvas(), (b"ABCD", b"xy"), (b"VP8L", stream)), pixels),
-        ("reserved", riff((b"VP8X", b"\1" + canvas()[1][1:]), (b"VP8L", stream)), BROKEN),
-        ("first", riff((b"VPxX", canvas()[1]), (b"VP8L", stream)), BROKEN),
-        ("canvas-late", riff((b"VP8L", stream), canvas()), BROKEN),
-        ("canvas-empty", riff((b"VP8X", b""), (b"VP8L", stream)), BROKEN),
-        (
-            "opacity-unsaid",
-            riff((b"VP8L", clear_stream[:4] + bytes([clear_stream[4] & 0xEF]) + clear_stream[5:])),
-            BROKEN,
-        ),
-        ("bit", plain.replace(b"\x2f", b"\x2e", 1), BROKEN),
-        ("short-riff", plain[:4] + struct.pack("<I", 14) + plain[8:], BROKEN),
-        ("odd", odd, pixels),
-        ("odd-riff", odd[:4] + struct.pack("<I", len(odd) - 9) + odd[8:], BROKEN),
-    ):
-        yield Odd(
-            f"webp-{name}", data, *([wanted] if isinstance(wanted, list) else [None, wanted or ""])
-        )
-    yield Odd("jpeg", by_pillow("JPEG", quality=100), None, LOSSY)
-    yield Odd("jpeg-cut", by_pillow("JPEG", quality=100)[:20], None, LOSSY)
-
-
-# PPM, PGM, PBM: no browser shows them, so what is expected comes from the definition of these formats alone.
+# PPM, PGM, PBM: no browser shows them, so what is expected comes from the definition of these
+# formats alone.
 
 
 def grey(sample, most):
@@ -1074,7 +523,7 @@ def pnms():
         ("4", b"P4 5 4\n" + raw_bits, bits),
         ("4-comments", b"P4 # kind\n5#\r# 7 7\n4\r" + raw_bits, bits),
         ("4-short", b"P4 5 4\n" + raw_bits[:-1], BROKEN),
-        ("4-comment-last", b"P4 5 4 # x\n" + raw_bits, None),
+        ("4-comment-last", b"P4 5 4 # x\n" + raw_bits, BROKEN),
         ("4-wide", b"P4 9 1\n\x80\x80", [[BLACK, *[WHITE] * 7, BLACK]]),
         ("2-zeros", "P2 0002 01 0003 003 00", [[grey(3, 3), grey(0, 3)]]),
         ("2-many-zeros", f"P2 2 1 3 {'0' * 5000}2 {'0' * 5000}", [[grey(2, 3), grey(0, 3)]]),
@@ -1091,9 +540,9 @@ def pnms():
         ("5-two", b"P5 2 1 3\n\3\2P5 2 1 3\n\3\2", FRAMES),
         ("6-two", b"P6 1 1 255\nabc\nP6 1 1 255\nabc", FRAMES),
         ("5-line", b"P5 2 1 3\n\3\2\n", [[grey(3, 3), grey(2, 3)]]),
-        ("2-256", "P2 1 1 256 0", BITS),
-        ("5-65535", b"P5 1 1 65535\n\0\0", BITS),
-        ("6-1000", b"P6 1 1 1000\n\0\0\0\0\0\0", BITS),
+        ("2-256", "P2 1 1 256 0", [[BLACK]]),
+        ("5-65535", b"P5 1 1 65535\n\0\0", [[BLACK]]),
+        ("6-1000", b"P6 1 1 1000\n\0\0\3\xe8\0\0", [[(0, 255, 0, 255)]]),
         ("5-0", b"P5 1 1 0\n\0", BROKEN),
         ("no-size", b"P6", BROKEN),
         ("size-0", "P1 0 4 ", BROKEN),
@@ -1131,7 +580,7 @@ def pnms():
 
 def odd_images():
     """All of them."""
-    makers = (png_kinds, png_clear, png_colours, png_frames, png_broken, gifs, bmps, webps, pnms)
+    makers = (png_kinds, png_clear, png_colours, png_frames, png_broken, pnms)
     return [odd for make in makers for odd in make()]
 
 

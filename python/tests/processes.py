@@ -1,4 +1,5 @@
-"""What tests ask of processes, which may end while they are looked at: then there is nothing to see of them."""
+"""What tests ask of processes, which may end while they are looked at: then there is nothing to see
+of them."""
 
 import os
 from pathlib import Path
@@ -32,7 +33,8 @@ def seen(pid):
 
 
 def children(parent):
-    """The processes that a process started, those too that have ended and that it has not waited for."""
+    """The processes that a process started, those too that have ended and that it has not waited
+    for."""
     return [
         pid
         for pid in map(int, filter(str.isdigit, os.listdir("/proc")))

@@ -1,7 +1,9 @@
-"""Tests of the package: cd python && python3 -m unittest tests/test_nonobench.py. Those of `Worker` are in test_worker.py.
+"""Tests of the package: cd python && python3 -m unittest tests/test_nonobench.py. Those of `Worker`
+are in test_worker.py.
 
-What is expected stands in tests/cases/, or follows from docs/FORMATS.md by hand. With NONOBENCH=program, 1,000 cases by chance
-(CASES=number) are compared with what the program prints; the seed is 1 (SEED=number).
+What is expected stands in tests/cases/, or follows from docs/SESSION.md by hand. With
+NONOBENCH=program, 1,000 cases by chance (CASES=number) are compared with what the program prints;
+the seed is 1 (SEED=number).
 """
 
 import importlib
@@ -237,10 +239,9 @@ class Answers(unittest.TestCase):
             self.assertEqual(
                 str(nonobench.check(picture, proved.certificate)), "certificate accepted\n"
             )
-            # The old names.
-            self.assertEqual(nonobench.verify(picture, proved.proof), nonobench.Result(()))
         self.assertEqual(nonobench.prove(DIAGONAL), nonobench.Proved(Ruling.AMBIGUOUS))
-        # Nothing proves a picture that has another one: not the certificate of another picture, nor lines of its own.
+        # Nothing proves a picture that has another one: not the certificate of another picture, nor
+        # lines of its own.
         for text in (nonobench.prove(pair).certificate, b"nonolemma 2\nline r1 c1 r2 c2\ndone\n"):
             with self.assertRaises(CertificateFault):
                 nonobench.check(DIAGONAL, text, published=ANY_GIVEN)
@@ -258,7 +259,8 @@ class Answers(unittest.TestCase):
                 nonobench.check(tile, b"" if published else b" " * 16777217, published=published)
 
     def test_as_many_givens_as_the_largest_picture_has_cells(self):
-        """More of them are not looked at: no right certificate names more, and a wrong one is refused as before."""
+        """More of them are not looked at: no right certificate names more, and a wrong one is
+        refused as before."""
         whole, head = picture_of("/".join(["a." * 60] * 120)), b"nonolemma 1\n"
         cells = tuple((row, column) for row in range(1, 121) for column in range(1, 121))
         lines = b"".join(b"given %d %d\n" % cell for cell in cells)
@@ -274,7 +276,8 @@ class Answers(unittest.TestCase):
         self.assertEqual(len(_answers.givens_of(head + b"given 1 1\n" * 14401)), 14400)
 
     def test_what_is_wrong_with_givens_of_clues_is_told_of_them(self):
-        """Of a .non text, whichever givens a certificate names: the puzzle itself is not at fault."""
+        """Of a .non text, whichever givens a certificate names: the puzzle itself is not at
+        fault."""
         clues = b'width 2\nheight 1\nrows\n1\ncolumns\n1\n0\ngoal "10"\n'
         self.assertTrue(nonobench.assess(clues, non=True).is_fit)
         for lines, why in (

@@ -23,14 +23,14 @@ sys.path.insert(0, str(Path(__file__).resolve().parent))
 from processes import children, is_running, seen  # noqa: E402
 
 import nonobench  # noqa: E402
-from nonobench import (
+from nonobench import (  # noqa: E402
     CertificateFault,
     Given,
     GivensFault,
     LengthFault,
     PictureFault,
     UnpublishedGiven,
-)  # noqa: E402
+)
 
 PACKAGE = Path(nonobench.__file__).resolve().parent.parent
 # Two rows, black and white, white and black: another picture has the clues, and a given decides it.
@@ -38,7 +38,8 @@ DIAGONAL = b"P3 2 2 255 0 0 0 255 255 255 255 255 255 0 0 0\n"
 GIVEN = b"nonocert 2\ngiven 1 1\nline r 1\nline c 1\nline r 2\ndone\n"
 LEMMAS = b"nonolemma 1\ngiven 1 1\nline r 1\nline c 1\nline r 2\ndone\n"
 TILE = b"P3 1 1 1 0 0 0"
-# White, and three colours in turn along each line: it has so many solutions that no certificate of all cells ends in time.
+# White, and three colours in turn along each line: it has so many solutions that no certificate of
+# all cells ends in time.
 ENDLESS = b"P3 60 60 3 " + b"".join(
     b"%d 0 0 " % at if at else b"3 3 3 "
     for at in ((row + column) % 4 for row in range(60) for column in range(60))
@@ -54,14 +55,15 @@ class Workers(unittest.TestCase):
     """Questions to another process."""
 
     def test_a_process_is_ended_whatever_a_handler_raises(self):
-        """It may be raised between any two steps, also while the finalizer of the process has forgotten it and not yet begun."""
+        """It may be raised between any two steps, also while the finalizer of the process has
+        forgotten it and not yet begun."""
         worker = nonobench.Worker(seconds=300)
         worker.check(TILE, worker.certify(TILE))
         process = worker._process
 
         def interrupt(frame, event, _):
             if (
-                frame.f_code is type(process.end).__call__.__code__
+                frame.f_code is type(process.end).__call__.__code__  # noqa: E721
                 and event == "line"
                 and not process.end.alive
             ):
@@ -93,7 +95,7 @@ class Workers(unittest.TestCase):
             self.assertEqual(worker.prove(TILE), nonobench.prove(TILE))
             self.assertEqual(worker.prove(DIAGONAL), nonobench.prove(DIAGONAL))
             self.assertEqual(
-                str(worker.verify(TILE, worker.prove(TILE).certificate)), "certificate accepted\n"
+                str(worker.check(TILE, worker.prove(TILE).certificate)), "certificate accepted\n"
             )
             self.assertEqual(
                 worker.check(DIAGONAL, LEMMAS, published=b"given 1 1\n").givens, (Given(1, 1),)
@@ -173,7 +175,8 @@ class Workers(unittest.TestCase):
                         worker.clues(DIAGONAL)
 
     def test_what_is_told_where_the_status_is_lost(self):
-        """Where a program ignores the end of its processes, none has a status, and no Python is missing for that."""
+        """Where a program ignores the end of its processes, none has a status, and no Python is
+        missing for that."""
         before = signal.signal(signal.SIGCHLD, signal.SIG_IGN)
         self.addCleanup(signal.signal, signal.SIGCHLD, before)
         with nonobench.Worker(seconds=300, memory=40 << 20, processor=200) as worker:
@@ -186,9 +189,11 @@ class Workers(unittest.TestCase):
         ):
             worker.verdict(ENDLESS)
         for program in ("/bin/true", "/bin/echo", "/bin/cat"):
-            with self.subTest(program), unittest.mock.patch.object(
-                sys, "executable", program
-            ), self.assertRaisesRegex(OSError, "needs a Python"):
+            with (
+                self.subTest(program),
+                unittest.mock.patch.object(sys, "executable", program),
+                self.assertRaisesRegex(OSError, "needs a Python"),
+            ):
                 nonobench.Worker().clues(TILE)
 
     def test_bounds(self):
@@ -300,10 +305,12 @@ class Interrupts(unittest.TestCase):
             told(worker, *QUESTIONS[0])
             usual = time.perf_counter() - begun
             while struck < most:
-                # Half of the moments lie in the time of an answer, the others in that of a process that starts.
+                # Half of the moments lie in the time of an answer, the others in that of a process
+                # that starts.
                 moment = source.random() * source.choice([0.001, usual])
                 try:
-                    # Once; should Python swallow it, as it does what is raised while it takes an object away, then again in a minute.
+                    # Once; should Python swallow it, as it does what is raised while it takes an
+                    # object away, then again in a minute.
                     signal.setitimer(signal.ITIMER_REAL, moment + 1e-6, 60)
                     while True:
                         question = source.choice(QUESTIONS)
@@ -329,8 +336,10 @@ class Interrupts(unittest.TestCase):
         for number in (1, 77):  # of the question before, and of none that there was
             with self.subTest(number), nonobench.Worker(seconds=300) as worker:
                 worker.clues(DIAGONAL)
-                # A question whose answer nobody takes, and is not there yet when the next one is asked.
-                worker._process.send(number, b"1 300 0", DIAGONAL, b"", GIVEN)
+                # A question whose answer nobody takes, and is not there yet when the next one is
+                # asked.
+                worker._process.put(number, b"1 300 0", DIAGONAL, b"", GIVEN)
+                worker._process.write()
                 worker._process.is_waiting = lambda: True
                 with self.assertRaisesRegex(
                     RuntimeError, f"^the worker answered question {number} instead of 2$"
@@ -402,7 +411,8 @@ class Interrupts(unittest.TestCase):
         with nonobench.Worker(seconds=300) as worker:
             worker.clues(DIAGONAL)
             process = worker._process
-            process.send(2, b"1 300 0", DIAGONAL, b"", GIVEN)
+            process.put(2, b"1 300 0", DIAGONAL, b"", GIVEN)
+            process.write()
             while process.is_waiting():
                 time.sleep(0.01)
             # It even has the number of the next question.
@@ -429,9 +439,8 @@ class Interrupts(unittest.TestCase):
                 child = os.fork()
                 if child == 0:
                     try:
-                        is_new = (
-                            worker._process is None
-                        )  # before a call, which another thread may make at the same time
+                        # before a call, which another thread may make at the same time
+                        is_new = worker._process is None
                         worker.verdict(TILE)
                         is_good = (
                             is_new
@@ -513,7 +522,8 @@ class Ends(unittest.TestCase):
         self.assert_ends(pid, 30)
 
 
-# What a stranger may have put into the current folder, or into one of PYTHONPATH. Each file says that it was run.
+# What a stranger may have put into the current folder, or into one of PYTHONPATH. Each file says
+# that it was run.
 HOSTILE = (
     "resource",
     "struct",
@@ -535,7 +545,10 @@ class Folders(unittest.TestCase):
     def test_a_hostile_folder(self):
         with tempfile.TemporaryDirectory() as folder:
             mark = Path(folder, "ran")
-            text = f"open({str(mark)!r}, 'a').write(__name__ + '\\n')\nRLIMIT_AS = 9\nsetrlimit = lambda *a: 0\n"
+            text = (
+                f"open({str(mark)!r}, 'a').write(__name__ + '\\n')\nRLIMIT_AS = 9\nsetrlimit ="
+                " lambda *a: 0\n"
+            )
             for name in HOSTILE:
                 Path(folder, f"{name}.py").write_text(text, encoding="utf-8")
             for name in (
@@ -547,7 +560,8 @@ class Folders(unittest.TestCase):
                 Path(folder, name).parent.mkdir(exist_ok=True)
                 Path(folder, name).write_text(text, encoding="utf-8")
             Path(folder, "libnonobench.so").write_bytes(b"no library")
-            # The program itself looks nowhere there; its worker must not either, though it inherits folder and variables.
+            # The program itself looks nowhere there; its worker must not either, though it inherits
+            # folder and variables.
             program = textwrap.dedent(
                 f"""
                 import os, sys
@@ -559,7 +573,7 @@ class Folders(unittest.TestCase):
                     print(worker.clues({DIAGONAL!r}), end="")
                     limits = open(f"/proc/{{worker._process.pid}}/limits").read()
                 print([line for line in limits.splitlines() if "address space" in line][0].split()[3])
-            """
+            """  # noqa: E501
             )
             run = subprocess.run(
                 [sys.executable, "-I", "-c", program],

@@ -1,24 +1,26 @@
 """Checks certificates of nonograms, and judges pictures.
 
-    result = nonobench.check(picture, certificate, published=[(1, 1)])   # raises a Fault if a file is refused
-    clues = nonobench.clues(picture)
-    verdict = nonobench.verdict(picture, allowance=1000)
-    certificate = nonobench.certify(picture)                             # None if the puzzle has several solutions
-    audit = nonobench.audit(picture, allowance=1000)                     # both, of one opened picture
-    assessment = nonobench.assess(picture, allowance=1000)               # whether it is fit to be published: grade and flaws
-    certificate = nonobench.prove(picture).certificate                   # with lemmas: where others are too long
+    result = nonobench.check(picture, certificate, published=[(1, 1)])   # raises a Fault if a file
+    is refused clues = nonobench.clues(picture) verdict = nonobench.verdict(picture, allowance=1000)
+    certificate = nonobench.certify(picture)                             # None if the puzzle has
+    several solutions audit = nonobench.audit(picture, allowance=1000)                     # both,
+    of one opened picture assessment = nonobench.assess(picture, allowance=1000)               #
+    whether it is fit to be published: grade and flaws certificate =
+    nonobench.prove(picture).certificate                   # with lemmas: where others are too long
 
-A picture is the bytes of a plain PPM text (P3), of at most 120 by 120 cells in 16 colours with the background. The calls are
-those of libnonobench, which is proved (docs/PROMISES.md); this package passes bytes to it and reads the texts that it returns, and
-is tested. Each call makes a desk of its own, so several threads may call at once. After a program with threads has forked, the
-child must not call the library; use `Worker` there, which starts a new program. An answer may take long: `Worker` limits the time.
+A picture is the bytes of a plain PPM text (P3), of at most 120 by 120 cells in 16 colours with the
+background. The calls are those of libnonobench, which is proved (docs/THEOREMS.md); this package
+passes bytes to it and reads the texts that it returns, and is tested. Each call makes a desk of its
+own, so several threads may call at once. After a program with threads has forked, the child must
+not call the library; use `Worker` there, which starts a new program. An answer may take long:
+`Worker` limits the time.
 
 `picture_of_image` reads other images, a cell for each pixel, as a browser shows them:
 
     picture = nonobench.picture_of_image(data)                           # raises ImageFault
 """
 
-from . import _loading  # before all else
+from . import _loading  # noqa: F401, before all else
 from ._answers import (
     Assessment,
     Audit,
@@ -49,7 +51,6 @@ from ._calls import (
     picture_of,
     prove,
     verdict,
-    verify,
 )
 from ._hints import hint_of
 from ._images import colour_shown, picture_of_image
@@ -95,6 +96,5 @@ __all__ = [
     "picture_of_image",
     "prove",
     "verdict",
-    "verify",
     "version",
 ]

@@ -10,18 +10,17 @@ import nonobench
 from nonobench._process import folders
 
 LIBRARIES = (
-    ("Pillow", "PIL", "images as puzzles"),
+    ("Pillow", "PIL", "PNG as puzzles"),
     ("defusedxml", "defusedxml", "Web Paint-by-Number's XML"),
     ("Jinja2", "jinja2", "the report of an audit"),
     ("tqdm", "tqdm", "a bar while an audit runs"),
     ("distributed", "distributed", "an audit on more machines"),
 )
 OFFERS = """
-  nonobench-audit PATH..    which puzzles of a collection have one solution; see --help
+  nonobench-audit PATH..    which puzzles of a collection are fit to be published; see --help
   python3 -m nonobench.audit PATH..    the same
-  nonobench-check-site FOLDER    whether the certificates below a folder are accepted; see --help
   import nonobench          check, clues, verdict and more in a program of your own; see help(nonobench)
-"""
+"""  # noqa: E501
 
 
 def main() -> None:
@@ -33,7 +32,7 @@ def main() -> None:
     for name, module, use in LIBRARIES:
         is_there = importlib.util.find_spec(module) is not None
         print(
-            f"  {name:12} {use:28} {_version(name) if is_there else f'not installed (pip install {name})'}"
+            f"  {name:12} {use:28} {_version(name) if is_there else f'not installed (pip install {name})'}"  # noqa: E501
         )
 
 

@@ -13,7 +13,8 @@ MOST_GIVENS = 120 * 120  # a picture has no more cells
 
 
 class Fault(Exception):
-    """A file is refused. `name` is the error's name in docs/FORMATS.md, and `text` what the program says after `nonobench: `."""
+    """A file is refused. `name` is the error's name in docs/FILE-FORMATS.md, and `text` what the
+    program says after `nonobench: `."""
 
     def __init__(self, name: str, place: int, text: str) -> None:
         super().__init__(name, place, text)
@@ -50,8 +51,8 @@ class GivensFault(_LineFault):
 
 
 class UnpublishedGiven(CertificateFault):
-    """The certificate names a given that is not published, at a line that is counted from 1. It proves the puzzle with that
-    given. `givens` has all givens that it names.
+    """The certificate names a given that is not published, at a line that is counted from 1. It
+    proves the puzzle with that given. `givens` has all givens that it names.
     """
 
     def __init__(self, line: int, givens: tuple[Given, ...]) -> None:
@@ -61,7 +62,7 @@ class UnpublishedGiven(CertificateFault):
 
 
 class ImageFault(Fault):
-    """An image is refused. `name` is the reason, as docs/FORMATS.md has it."""
+    """An image is refused. `name` is the reason, as docs/AUDIT.md has it."""
 
     def __init__(self, name: str, text: str) -> None:
         super().__init__(name, 0, text)
@@ -94,7 +95,8 @@ class Given(NamedTuple):
 
 @dataclass(frozen=True)
 class Result:
-    """A certificate was accepted: no other picture of that size has the clues, and these cells' colours."""
+    """A certificate was accepted: no other picture of that size has the clues, and these cells'
+    colours."""
 
     givens: tuple[Given, ...]
 
@@ -107,7 +109,8 @@ class Result:
 
 
 def givens_of(certificate: bytes) -> tuple[Given, ...]:
-    """The givens that a right certificate names: they stand directly below its first line. No right one has more or longer numbers."""
+    """The givens that a right certificate names: they stand directly below its first line. No right
+    one has more or longer numbers."""
     lines = itertools.islice(io.BytesIO(certificate), 1, 1 + MOST_GIVENS)
     found = itertools.takewhile(
         bool, map(re.compile(rb"given (\d{1,3}) (\d{1,3})\n?").fullmatch, lines)
@@ -140,7 +143,8 @@ class Clues:
     def __str__(self) -> str:
         """The lines that the program prints."""
         return "".join(
-            f"{axis} {number}: {' '.join(f'{block.length}{block.colour}' for block in clue) or '0'}\n"
+            f"{axis} {number}:"
+            f" {' '.join(f'{block.length}{block.colour}' for block in clue) or '0'}\n"
             for axis, clues in (("r", self.rows), ("c", self.columns))
             for number, clue in enumerate(clues, 1)
         )
@@ -150,13 +154,13 @@ def clues_of(text: str) -> Clues:
     """The clues that a text tells."""
     axes: dict[str, list[tuple[Block, ...]]] = {"r": [], "c": []}
     for line in text.splitlines():
-        place, words = line.split(": ")
+        name, words = line.split(": ")
         blocks = (
             ()
             if words == "0"
             else tuple(Block(int(word[:-1]), word[-1]) for word in words.split(" "))
         )
-        axes[place[0]].append(blocks)
+        axes[name[0]].append(blocks)
     return Clues(tuple(axes["r"]), tuple(axes["c"]))
 
 
@@ -170,14 +174,16 @@ class Ruling(enum.Enum):
 
 @dataclass(frozen=True)
 class Verdict:
-    """A verdict. `other` is another picture with the clues, its rows as letters, if the ruling is AMBIGUOUS."""
+    """A verdict. `other` is another picture with the clues, its rows as letters, if the ruling is
+    AMBIGUOUS."""
 
     ruling: Ruling
     other: Optional[tuple[str, ...]] = None
 
 
 class Grade(NamedTuple):
-    """How hard a puzzle is: easy, medium, hard, very-hard or expert, and its figures; or `unknown`, without splits and depth."""
+    """How hard a puzzle is: easy, medium, hard, very-hard or expert, and its figures; or `unknown`,
+    without splits and depth."""
 
     word: str
     rounds: int
@@ -188,7 +194,8 @@ class Grade(NamedTuple):
 
 
 class Flaw(NamedTuple):
-    """Why a puzzle is not fit to be published: `blank`, `background`, `given` or `spare` with a cell, `alike` with two colours' letters."""
+    """Why a puzzle is not fit to be published: `blank`, `background`, `given` or `spare` with a
+    cell, `alike` with two colours' letters."""
 
     kind: str
     place: Optional[Given] = None
@@ -201,7 +208,8 @@ class Flaw(NamedTuple):
 
 @dataclass(frozen=True)
 class Assessment:
-    """Whether a puzzle is fit to be published, as docs/FORMATS.md has it. There is a grade if the ruling is UNIQUE."""
+    """Whether a puzzle is fit to be published, as docs/SESSION.md has it. There is a grade if the
+    ruling is UNIQUE."""
 
     verdict: Verdict
     rows: int
@@ -223,7 +231,8 @@ FLAW_KINDS = ("blank", "background", "given", "alike", "any")
 
 
 def refused_flaws(flaws: Iterable[str], kinds: Iterable[str]) -> list[str]:
-    """The flaws, by their words, that somebody refuses who allows some kinds. `given` allows `spare` too."""
+    """The flaws, by their words, that somebody refuses who allows some kinds. `given` allows
+    `spare` too."""
     allowed = {*kinds, *(("spare",) if "given" in kinds else ())}
     return [] if "any" in allowed else [flaw for flaw in flaws if flaw.split(" ")[0] not in allowed]
 
@@ -238,15 +247,11 @@ class Audit:
 
 @dataclass(frozen=True)
 class Proved:
-    """What came of the search for a certificate with lemmas. There is one where the ruling is UNIQUE. UNDECIDED: a bound was reached."""
+    """What came of the search for a certificate with lemmas. There is one where the ruling is
+    UNIQUE. UNDECIDED: a bound was reached."""
 
     ruling: Ruling
     certificate: Optional[bytes] = None
-
-    @property
-    def proof(self) -> Optional[bytes]:
-        """Deprecated: the old name of `certificate`."""
-        return self.certificate
 
 
 def proved_of(text: bytes) -> Proved:
@@ -267,18 +272,18 @@ def assessment_of(text: str, named: tuple[Given, ...] = ()) -> Assessment:
     """The assessment that a text tells, by a certificate that names some givens."""
     front, back = text.split("size ", 1)
     size, *lines = (line.split(" ") for line in back.splitlines())
-    told = {words[0]: words[1:] for words in lines if words[0] != "flaw"}
-    grade = told.get("grade")
+    found = {words[0]: words[1:] for words in lines if words[0] != "flaw"}
+    grade = found.get("grade")
     return Assessment(
         verdict_of(front.encode("ascii")),
         int(size[0]),
         int(size[1]),
-        int(told["colours"][0]),
-        int(told["givens"][0]),
-        int(told["open"][0]),
+        int(found["colours"][0]),
+        int(found["givens"][0]),
+        int(found["open"][0]),
         None if grade is None else Grade(grade[0], *map(int, grade[1:])),
         tuple(_flaw(words[1:]) for words in lines if words[0] == "flaw"),
-        Given(*map(int, told["unknown"][1:])) if "unknown" in told else None,
+        Given(*map(int, found["unknown"][1:])) if "unknown" in found else None,
         lines[-1] == ["fit"],
         text,
         named,

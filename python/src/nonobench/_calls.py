@@ -51,8 +51,9 @@ Published = Union[Iterable[tuple[int, int]], Bytes, AnyGiven]
 
 
 class Questions:
-    """The questions, wherever they are answered. Each raises PictureFault, LengthFault or MemoryError if a picture is refused,
-    and ValueError for a background that is not a triple of numbers from 0 to 65,535. Without one the background is white.
+    """The questions, wherever they are answered. Each raises PictureFault, LengthFault or
+    MemoryError if a picture is refused, and ValueError for a background that is not a triple of
+    numbers from 0 to 65,535. Without one the background is white.
     """
 
     def check(
@@ -62,27 +63,33 @@ class Questions:
         background: Optional[Colour] = None,
         published: Published = (),
     ) -> Result:
-        """Checks a certificate of a picture, a P3 text, in any of its forms. Raises CertificateFault if it is not accepted.
+        """Checks a certificate of a picture, a P3 text, in any of its forms. Raises
+        CertificateFault if it is not accepted.
 
-        A puzzle has one solution with the givens that its certificate names, and these may be all cells. So a certificate is
-        accepted only if each of its givens is among `published`: the cells whose colours you publish, as pairs of row and
-        column counted from 1, or as the bytes of a file with a line `given R C` for each; by default none. Otherwise it raises
-        UnpublishedGiven, whose `givens` are those that the certificate names. A published cell that is outside the picture or
-        occurs twice raises GivensFault. `published=ANY_GIVEN` accepts all givens, for a site that then publishes exactly these.
+        A puzzle has one solution with the givens that its certificate names, and these may be all
+        cells. So a certificate is accepted only if each of its givens is among `published`: the
+        cells whose colours you publish, as pairs of row and column counted from 1, or as the bytes
+        of a file with a line `given R C` for each; by default none. Otherwise it raises
+        UnpublishedGiven, whose `givens` are those that the certificate names. A published cell that
+        is outside the picture or occurs twice raises GivensFault. `published=ANY_GIVEN` accepts all
+        givens, for a site that then publishes exactly these.
         """
-        picture, certificate, givens = bytes_of(picture), bytes_of(certificate), _file_of(published)
+        picture, certificate, givens = (
+            bytes_of(picture),
+            bytes_of(certificate),
+            _file_of(published),
+        )
         (text,) = self._ask(
             CHECK if givens is None else PUBLISHED, picture, background, certificate, givens or b""
         )
         return result_of(text.decode("ascii"), certificate)
 
-    verify = check  # its old name, for one release
-
     def prove(self, picture: Bytes, background: Optional[Colour] = None) -> Proved:
         """A certificate with lemmas of a picture, without givens, or why there is none.
 
-        It is often shorter than that of `certify`, and sometimes there when that takes too long. The search has bounds, and if it
-        reaches one, the ruling is UNDECIDED. Until then it may take minutes; `Worker` limits the time.
+        It is often shorter than that of `certify`, and sometimes there when that takes too long.
+        The search has bounds, and if it reaches one, the ruling is UNDECIDED. Until then it may
+        take minutes; `Worker` limits the time.
         """
         return proved_of(self._ask(PROVE, bytes_of(picture), background, b"")[0])
 
@@ -95,29 +102,31 @@ class Questions:
         allowance: Optional[int] = None,
         non: bool = False,
     ) -> Assessment:
-        """Whether a puzzle is fit to be published: its verdict, its grade and its flaws. It is a P3 text, or (`non`) a .non text.
+        """Whether a puzzle is fit to be published: its verdict, its grade and its flaws. It is a P3
+        text, or (`non`) a .non text.
 
-        A background that is passed counts as named. The published cells and the certificate are as in `check`; with a certificate the
-        checker says what is unique, and nothing is searched. Otherwise the allowance bounds each search, as in `verdict`.
+        A background that is passed counts as named. The published cells and the certificate are as
+        in `check`; with a certificate the checker says what is unique, and nothing is searched.
+        Otherwise the allowance bounds each search, as in `verdict`.
         """
-        puzzle, held = bytes_of(puzzle), None if certificate is None else bytes_of(certificate)
-        givens = _file_of(givens_of(held or b"") if isinstance(published, AnyGiven) else published)
+        puzzle, by = bytes_of(puzzle), None if certificate is None else bytes_of(certificate)
+        givens = _file_of(givens_of(by or b"") if isinstance(published, AnyGiven) else published)
         _allow(allowance)
         if not isinstance(non, int):
             raise TypeError(f"non must be True or False, not {type(non).__name__}")
         if non and background is not None:
             raise ValueError("background goes with a P3 text")
-        numbers = non, NO_ALLOWANCE if allowance is None else allowance, held is not None
-        rest = b"%d %d %d\n" % numbers + (held or b"")
+        numbers = (non, NO_ALLOWANCE if allowance is None else allowance, by is not None)
+        rest = b"%d %d %d\n" % numbers + (by or b"")
         try:
             (text,) = self._ask(ASSESS, puzzle, background, rest, givens or b"")
         except GivensFault:
-            if held is not None and isinstance(published, AnyGiven) and not non:
+            if by is not None and isinstance(published, AnyGiven) and not non:
                 self.check(
-                    puzzle, held, background, ANY_GIVEN
+                    puzzle, by, background, ANY_GIVEN
                 )  # which says what is wrong with the certificate that names them
             raise
-        return assessment_of(text.decode("ascii"), givens_of(held or b""))
+        return assessment_of(text.decode("ascii"), givens_of(by or b""))
 
     def clues(self, picture: Bytes, background: Optional[Colour] = None) -> Clues:
         """The clues of a picture."""
@@ -128,20 +137,34 @@ class Questions:
     ) -> Verdict:
         """Whether another picture has the clues of this one.
 
-        The allowance, 0 to 99,999, is how many splits the search of a part may make. Without one the search has no bound, and may
-        take very long; `Worker` limits the time. Raises ValueError for another allowance.
+        The allowance, 0 to 99,999, is how many splits the search of a part may make. Without one
+        the search has no bound, and may take very long; `Worker` limits the time. Raises ValueError
+        for another allowance.
         """
         return verdict_of(self._say(picture, background, _allow(allowance) + b"verdict\n")[-1])
 
     def certify(self, picture: Bytes, background: Optional[Colour] = None) -> Optional[bytes]:
-        """A certificate of a picture, without givens, or None if another picture has its clues. It may take very long."""
+        """A certificate of a picture, without givens, or None if another picture has its clues. It
+        may take very long."""
         text = self._say(picture, background, b"certify\n")[-1]
+        return None if text == b"ambiguous\n" else text
+
+    def certify_with(
+        self,
+        picture: Bytes,
+        background: Optional[Colour] = None,
+        givens: Iterable[tuple[int, int]] = (),
+    ) -> Optional[bytes]:
+        """A certificate of a picture with some cells given, as `certify` makes it."""
+        pins = b"".join(b"pin %d %d\n" % given for given in givens)
+        text = self._say(picture, background, pins + b"certify\n")[-1]
         return None if text == b"ambiguous\n" else text
 
     def audit(
         self, picture: Bytes, allowance: Optional[int] = None, background: Optional[Colour] = None
     ) -> Audit:
-        """Verdict and certificate of a picture that is opened once. There is a certificate if the ruling is UNIQUE.
+        """Verdict and certificate of a picture that is opened once. There is a certificate if the
+        ruling is UNIQUE.
 
         The allowance bounds the verdict, as in `verdict`; making the certificate has no bound.
         """
@@ -151,7 +174,8 @@ class Questions:
         return Audit(verdict_of(texts[-1]))
 
     def _say(self, picture: Bytes, background: Optional[Colour], lines: bytes) -> list[bytes]:
-        """What a bench on a picture answers to each line, until one is refused or tells that there is no certificate.
+        """What a bench on a picture answers to each line, until one is refused or tells that there
+        is no certificate.
 
         All that is asked here is lawful, so a refusal is one of memory.
         """
@@ -172,7 +196,7 @@ class Questions:
         givens: bytes = b"",
     ) -> list[bytes]:
         """The texts of an answer. Raises what its status tells."""
-        ground = b"" if background is None else b"%d,%d,%d" % triple_of(background)
+        ground = b"" if background is None else colour_word(background)
         status, texts = self._answer(kind, picture, ground, rest, givens)
         if status == MEMORY:
             raise MemoryError("nonobench: memory")
@@ -196,11 +220,12 @@ assess, check, clues, verdict, certify, audit = (
     _here.certify,
     _here.audit,
 )
-verify, prove = _here.verify, _here.prove
+prove = _here.prove
 
 
 def picture_of(columns: int, rows: int, triples: Iterable[Colour], maxval: int = 255) -> bytes:
-    """A P3 text of cells by rows, each a red, a green and a blue from 0 to maxval. ValueError names what the reader would refuse."""
+    """A P3 text of cells by rows, each a red, a green and a blue from 0 to maxval. ValueError names
+    what the reader would refuse."""
     cells = [(*map(operator.index, cell),) for cell in triples]
     for name, value, most in (
         ("columns", columns, MOST_CELLS),
@@ -217,7 +242,8 @@ def picture_of(columns: int, rows: int, triples: Iterable[Colour], maxval: int =
         len(cell) == 3 and 0 <= min(cell) <= max(cell) <= maxval for cell in cells
     ):
         raise ValueError(
-            f"{columns} by {rows} cells need {columns * rows} colours up to {maxval}; not these {len(cells)}"
+            f"{columns} by {rows} cells need {columns * rows} colours up to {maxval}; not these"
+            f" {len(cells)}"
         )
     return "\n".join(
         [
@@ -232,10 +258,10 @@ def bytes_of(file: Bytes) -> bytes:
     """The bytes of a file, not too many of them."""
     if not isinstance(file, (bytes, bytearray, memoryview)):
         raise TypeError(f"expected bytes, not {type(file).__name__}")
-    held = bytes(memoryview(file))  # a subclass may tell another length
-    if len(held) > MOST_BYTES:
+    data = bytes(memoryview(file))  # a subclass may have another length
+    if len(data) > MOST_BYTES:
         raise LengthFault("TooLong", MOST_BYTES, "input too long")
-    return held
+    return data
 
 
 def _file_of(published: Published) -> Optional[bytes]:
@@ -266,6 +292,11 @@ def _allow(allowance: Optional[int]) -> bytes:
     if not 0 <= allowance <= MOST_ALLOWANCE:
         raise ValueError("allowance must be 0 to 99999")
     return f"allow {allowance:d}\n".encode("ascii")
+
+
+def colour_word(colour: Colour) -> bytes:
+    """A colour as the library takes it."""
+    return b"%d,%d,%d" % triple_of(colour)
 
 
 def triple_of(colour: Colour, most: int = MOST_SAMPLE, name: str = "background") -> Colour:

@@ -15,7 +15,8 @@ _CR_LF = "its lines end with CR LF, and must end with LF alone"
 
 
 def hint_of(fault: Fault, certificate: Union[bytes, bytearray, memoryview]) -> str:
-    """What an editor seems to have done to a certificate that was refused as NotCert, in a few words.
+    """What an editor seems to have done to a certificate that was refused as NotCert, in a few
+    words.
 
     Empty where there is no sign of that, and for another fault.
     """

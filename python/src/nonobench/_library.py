@@ -1,6 +1,7 @@
 """The calls of libnonobench, and a desk to ask them on. c/nonobench.h has what each does.
 
-The process of `Worker` loads this too, so it imports little: what it imports takes longer than a check.
+The process of `Worker` loads this too, so it imports little: what it imports takes longer than a
+check.
 """
 
 from __future__ import annotations
@@ -14,7 +15,7 @@ if TYPE_CHECKING:
     from typing import Any, Callable
 
 DONE, REFUSED, MEMORY, CLOSED, OPTIONS = 0, 1, 4, 5, 6
-NAME = "nonobench.dll" if os.name == "nt" else "libnonobench.so"
+NAME = "libnonobench.so"
 
 # The folder of the package.
 FOLDER = os.path.dirname(os.path.abspath(__file__))
@@ -25,7 +26,8 @@ _Buffer = ctypes.c_char * ROOM
 
 
 def _path() -> str:
-    """Where the library is: as NONOBENCH_LIBRARY says, else beside the package, in the checkout, or where the system looks."""
+    """Where the library is: as NONOBENCH_LIBRARY says, else beside the package, in the checkout, or
+    where the system looks."""
     named = os.environ.get("NONOBENCH_LIBRARY")
     if named:
         # A name without a slash is looked for by the system.
@@ -87,7 +89,8 @@ class _Calls:
             call = getattr(ctypes.CDLL(PATH), name)
         except OSError as error:
             raise ImportError(
-                f"cannot load {PATH}; build it with c/build, or set NONOBENCH_LIBRARY to its path: {error}"
+                f"cannot load {PATH}; build it with c/build, or set NONOBENCH_LIBRARY to its path:"
+                f" {error}"
             ) from error
         call.restype, call.argtypes = _kinds()[name.removeprefix("nonobench_")]
         setattr(self, name, call)
@@ -133,7 +136,8 @@ class Desk:
     def check(
         self, picture: bytes, certificate: bytes, background: bytes, givens: bytes | None
     ) -> int:
-        """Checks a certificate of a picture, with the file of givens that are published if there is one, and answers the status."""
+        """Checks a certificate of a picture, with the file of givens that are published if there is
+        one, and answers the status."""
         call = _calls.nonobench_check if givens is None else _calls.nonobench_check_published
         files = (
             (picture, certificate, background)

@@ -1,4 +1,5 @@
-"""While a program of this package is loaded, Ctrl-C ends it at once, without a traceback. The program minds it once it runs.
+"""While a program of this package is loaded, Ctrl-C ends it at once, without a traceback. The
+program minds it once it runs.
 
 Where it cannot be loaded it ends with status 3: Python's own, 1, says that all was judged.
 """
@@ -7,9 +8,8 @@ import _signal as signal  # type: ignore  # `signal` itself loads much before it
 import os
 import sys
 
-_PROGRAMS = ("nonobench-audit", "nonobench-check-site")
 _is_ours = (
-    os.path.basename(sys.argv[0] if sys.argv else "") in _PROGRAMS
+    os.path.basename(sys.argv[0] if sys.argv else "") == "nonobench-audit"
     and signal.getsignal(signal.SIGINT) is signal.default_int_handler
 )
 

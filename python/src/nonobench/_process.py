@@ -1,4 +1,5 @@
-"""A process of Python that answers over a stream: it begins apart from what lies around, and ends with what asks it."""
+"""A process of Python that answers over a stream: it begins apart from what lies around, and ends
+with what asks it."""
 
 from __future__ import annotations
 
@@ -11,12 +12,13 @@ import socket
 import subprocess
 import sys
 import weakref
-from typing import Any, Callable, Iterable, TypeVar
+from typing import Any, Callable, Iterable, TypeVar, Union
 
 from ._library import FOLDER, PATH
 from ._serve import FRAME, framed
 
-# A process loads modules from the package's folder, under the package's name: `-I` leaves out PYTHONPATH and the current folder.
+# A process loads modules from the package's folder, under the package's name: `-I` leaves out
+# PYTHONPATH and the current folder.
 _START = """import importlib, sys
 package = sys.modules["nonobench"] = type(sys)("nonobench")
 package.__path__ = [sys.argv[1]]
@@ -35,10 +37,12 @@ Made = TypeVar("Made")
 
 
 def uninterrupted(call: Callable[[], Made]) -> Made:
-    """What a call makes in a thread of its own: what a signal's handler raises is raised in the main thread alone.
+    """What a call makes in a thread of its own: what a signal's handler raises is raised in the
+    main thread alone.
 
-    There it may be raised between any two steps, also within `subprocess` and `threading`: a process that was just started would
-    be known to nobody, or a lock of theirs would stay taken. Here the main thread takes no lock but one of this call.
+    There it may be raised between any two steps, also within `subprocess` and `threading`: a
+    process that was just started would be known to nobody, or a lock of theirs would stay taken.
+    Here the main thread takes no lock but one of this call.
     """
     made: list[Made] = []
     raised: list[BaseException] = []
@@ -64,18 +68,21 @@ def uninterrupted(call: Callable[[], Made]) -> Made:
 
 
 def folders() -> list[str]:
-    """Where this program finds libraries, but for the current folder, whose files may be a stranger's."""
+    """Where this program finds libraries, but for the current folder, whose files may be a
+    stranger's."""
     return [
-        way
-        for way in sys.path
-        if os.path.exists(way or ".") and not os.path.samefile(way or ".", ".")
+        path
+        for path in sys.path
+        if os.path.exists(path or ".") and not os.path.samefile(path or ".", ".")
     ]
 
 
 class Child:
-    """A process that answers, and the stream to it, which is its standard input. It is ended with this object.
+    """A process that answers, and the stream to it, which is its standard input. It is ended with
+    this object.
 
-    It runs `serve` of a module with a bound of its memory. More folders with libraries are looked into last.
+    It runs `serve` of a module with a bound of its memory. More folders with libraries are looked
+    into last.
     """
 
     def __init__(
@@ -87,7 +94,7 @@ class Child:
         **more: Any,
     ) -> None:
         self._memory = memory
-        self._out: list[memoryview] = []
+        self._out: list[Union[bytes, memoryview]] = []
         self._come = bytearray()
         self._stream, theirs = socket.socketpair()
         self._stream.setblocking(False)
@@ -122,36 +129,40 @@ class Child:
         return self._stream.fileno()
 
     def is_waiting(self) -> bool:
-        """Whether it waits for a question: it is not a parent's, it has not ended, and nothing of another answer is there."""
+        """Whether it waits for a question: it is not a parent's, it has not ended, and nothing of
+        another answer is there."""
         try:
             self._stream.recv(1, socket.MSG_PEEK)
         except BlockingIOError:
             return not self._come and not self.is_stopped and self._owner == os.getpid()
         except (
             OSError
-        ) as error:  # where the stream is open no other error of the system: a signal's handler may raise one of its own here
+            # where the stream is open no other error of the system: a signal's handler may raise
+            # one of its own here
+        ) as error:
             if self.end.alive and not isinstance(error, ConnectionError):
                 raise
         return False
 
-    def send(self, number: int, *parts: bytes) -> None:
-        """Puts a question on its way."""
-        self._out.append(memoryview(framed(number, *parts)))
-        self.write()
+    def put(self, number: int, *parts: bytes) -> None:
+        """Takes a question, which `write` sends."""
+        self._out.append(framed(number, *parts))
 
     def write(self) -> None:
         """Sends as much as there is room for."""
         try:
             while self._out:
-                left = self._out[0][self._stream.send(self._out[0], NO_SIGNAL) :]
-                self._out[:1] = [left] if left else []
+                whole = memoryview(b"".join(self._out))
+                left = whole[self._stream.send(whole, NO_SIGNAL) :]
+                self._out = [left] if left else []
         except BlockingIOError:
             pass
         except ConnectionError:
             self._out.clear()
 
     def answers(self) -> list[tuple[int, list[bytes]]]:
-        """The answers that have come whole. Raises EOFError where the process has ended, MemoryError where one is too large."""
+        """The answers that have come whole. Raises EOFError where the process has ended,
+        MemoryError where one is too large."""
         try:
             data = self._stream.recv(ROOM)
         except BlockingIOError:
@@ -190,7 +201,8 @@ class Child:
         return -9 if self.is_there() else self._process.returncode
 
     def has_begun(self) -> bool:
-        """Whether it told that it begins, by an empty line. It is asked once, before it is ended."""
+        """Whether it told that it begins, by an empty line. It is asked once, before it is
+        ended."""
         assert self._process.stdout
         os.set_blocking(self._process.stdout.fileno(), False)
         return bool(self._process.stdout.read(1) == b"\n")
@@ -201,7 +213,8 @@ class Child:
 
 
 def waited(children: Iterable[Child], seconds: float) -> list[Any]:
-    """The processes that have said something, or have ended, within so many seconds. What is on its way goes on."""
+    """The processes that have said something, or have ended, within so many seconds. What is on its
+    way goes on."""
     with selectors.PollSelector() as selector:
         for child in children:
             selector.register(
@@ -217,7 +230,8 @@ def waited(children: Iterable[Child], seconds: float) -> list[Any]:
 
 
 def _end(process: subprocess.Popen[bytes], stream: socket.socket, owner: int) -> None:
-    """Ends a process. In a child that was forked, this closes the child's end of the stream, and the process goes on."""
+    """Ends a process. In a child that was forked, this closes the child's end of the stream, and
+    the process goes on."""
 
     def end() -> None:
         process.kill()

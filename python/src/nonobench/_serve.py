@@ -1,21 +1,29 @@
-"""What the library is asked and answers, as bytes: in this process, or in that of `Worker`, whose program this is.
+"""What the library is asked and answers, as bytes: in this process, or in that of `Worker`, whose
+program this is.
 
-The process imports this and _library alone. What goes either way is a number and up to five parts, which are bytes. A question has
-numbers (a kind, and its bounds: seconds by the clock, and of the processor, 0 for none), and four files; an answer has the number of
-its question, a status and at most three texts. Nothing else comes back: no names and no objects.
+The process imports this and _library alone. What goes either way is a number and up to five parts,
+which are bytes. A question has numbers (a kind, and its bounds: seconds by the clock, and of the
+processor, 0 for none), and four files; an answer has the number of its question, a status and at
+most three texts. Nothing else comes back: no names and no objects.
 """
 
 from __future__ import annotations
 
 import ctypes
+import io
 import math
 import os
 import struct
 
 from ._library import DONE, Desk, version
 
-# What is asked: whether a certificate of a picture is accepted, with any givens or with those that are published; what a bench on a
-# picture answers to lines; for a certificate with lemmas; or for an assessment, which a certificate may help.
+TYPE_CHECKING = False
+if TYPE_CHECKING:
+    from typing import BinaryIO, Callable
+
+# What is asked: whether a certificate of a picture is accepted, with any givens or with those that
+# are published; what a bench on a picture answers to lines; for a certificate with lemmas; or for
+# an assessment, which a certificate may help.
 CHECK, PUBLISHED, SESSION, PROVE, ASSESS = 1, 2, 3, 4, 5
 
 NO_MEMORY = 9  # the status of a process whose memory has ended
@@ -29,30 +37,47 @@ LAST = (b"refused: ", b"ambiguous\n", b"undecided ")
 def answer(
     kind: int, picture: bytes, background: bytes, rest: bytes, givens: bytes
 ) -> tuple[int, list[bytes]]:
-    """The status, and the texts that were said. `rest` is the certificate, or the lines. For an assessment it is a line of numbers
-    (1 for a .non text, the allowance, 1 where there is a certificate), and then the certificate.
+    """The status, and the texts that were said. `rest` is the certificate, or the lines. For an
+    assessment it is a line of numbers (1 for a .non text, the allowance, 1 where there is a
+    certificate), and then the certificate.
     """
     with Desk() as desk:
-        if kind in (CHECK, PUBLISHED):
-            status = desk.check(picture, rest, background, givens if kind == PUBLISHED else None)
-        elif kind == PROVE:
-            status = desk.prove(picture, background)
-        elif kind == ASSESS:
-            words, _, certificate = rest.partition(b"\n")
-            non, allowance, is_by = map(int, words.split())
-            status = desk.assess(
-                picture, bool(non), background, givens, certificate if is_by else None, allowance
-            )
-        else:
-            status, handle = desk.open(picture, background)
-            texts: list[bytes] = []
-            for line in rest.splitlines(keepends=True) if status == DONE else ():
-                status = desk.say(handle, line)
-                texts.append(desk.text())
-                if status != DONE or texts[-1].startswith(LAST):
-                    break
-            return status, texts or [desk.text()]
+        return answer_on(desk, kind, picture, background, rest, givens)
+
+
+def answer_on(
+    desk: Desk, kind: int, picture: bytes, background: bytes, rest: bytes, givens: bytes
+) -> tuple[int, list[bytes]]:
+    """The same, on a desk that is there."""
+    if kind in (CHECK, PUBLISHED):
+        status = desk.check(picture, rest, background, givens if kind == PUBLISHED else None)
+    elif kind == PROVE:
+        status = desk.prove(picture, background)
+    elif kind == ASSESS:
+        words, _, certificate = rest.partition(b"\n")
+        non, allowance, is_by = map(int, words.split())
+        by = certificate if is_by else None
+        status = desk.assess(picture, bool(non), background, givens, by, allowance)
+    else:
+        return _answer_of_bench(desk, picture, background, rest)
+    return status, [desk.text()]
+
+
+def _answer_of_bench(
+    desk: Desk, picture: bytes, background: bytes, lines: bytes
+) -> tuple[int, list[bytes]]:
+    """What a bench on a picture says to lines, until one is the last."""
+    status, bench = desk.open(picture, background)
+    if status != DONE:
         return status, [desk.text()]
+    texts: list[bytes] = []
+    for line in lines.splitlines(keepends=True):
+        status = desk.say(bench, line)
+        texts.append(desk.text())
+        if status != DONE or texts[-1].startswith(LAST):
+            break
+    desk.close(bench)
+    return status, texts or [desk.text()]
 
 
 def framed(number: int, *parts: bytes) -> bytes:
@@ -60,14 +85,15 @@ def framed(number: int, *parts: bytes) -> bytes:
     return FRAME.pack(number, *map(len, parts), *[0] * (5 - len(parts))) + b"".join(parts)
 
 
-def receive() -> tuple[int, list[bytes]]:
+def receive(stream: BinaryIO) -> tuple[int, list[bytes]]:
     """The number and the parts that come next to this process."""
-    number, *sizes = FRAME.unpack(_whole(FRAME.size))
-    return number, [_whole(size) for size in sizes]
+    number, *sizes = FRAME.unpack(_whole(stream, FRAME.size))
+    parts = io.BytesIO(_whole(stream, sum(sizes)))
+    return number, [parts.read(size) for size in sizes]
 
 
-def _whole(size: int) -> bytes:
-    data = read(STREAM, size)
+def _whole(stream: BinaryIO, size: int) -> bytes:
+    data = stream.read(size)
     if len(data) < size:
         raise EOFError
     return data
@@ -82,15 +108,16 @@ def read(stream: int, size: int) -> bytes:
     return b"".join(parts)
 
 
-def write(stream: int, held: bytes) -> None:
+def write(stream: int, data: bytes) -> None:
     """Writes all of some bytes."""
-    view = memoryview(held)
+    view = memoryview(data)
     while view:
         view = view[os.write(stream, view) :]
 
 
 def begin(memory: int) -> None:
-    """Bounds the memory of this process, where it is not bounded by less. What loads the library is not bounded."""
+    """Bounds the memory of this process, where it is not bounded by less. What loads the library is
+    not bounded."""
     import resource
 
     version()
@@ -101,7 +128,8 @@ def begin(memory: int) -> None:
 
 
 def _allow(processor: int) -> None:
-    """Lets this process run for so many seconds more of the processor, at the most; for as long as before where there are none."""
+    """Lets this process run for so many seconds more of the processor, at the most; for as long as
+    before where there are none."""
     import resource
 
     if processor:
@@ -113,8 +141,9 @@ def _allow(processor: int) -> None:
         )
 
 
-def serve(memory: int) -> None:
-    """Answers questions until nobody asks any more. What ends the process: a question that takes too long, and the end of who asks."""
+def serve(memory: int, answer: Callable[..., tuple[int, list[bytes]]] = answer) -> None:
+    """Answers questions until nobody asks any more. What ends the process: a question that takes
+    too long, and the end of who asks."""
     import _signal as signal  # type: ignore  # as in _loading
     import fcntl
 
@@ -134,10 +163,11 @@ def serve(memory: int) -> None:
         fcntl.fcntl(
             1, command, value
         )  # killed with who asks, where the system closes the other end of its standard output
+    questions = open(STREAM, "rb", closefd=False)
     try:
         os.write(1, b"\n")  # an error where that end is closed by now
         while True:
-            number, (bounds, *files) = receive()
+            number, (bounds, *files) = receive(questions)
             kind, seconds, processor = map(int, bounds.split())
             alarm(seconds)
             _allow(processor)

@@ -9,7 +9,8 @@ if __name__ != "__main__":
 
     sys.modules[__name__] = audit  # type: ignore[assignment]
 else:
-    # Files of the current folder are not to be taken for libraries, unless the package itself lies there.
+    # Files of the current folder are not to be taken for libraries, unless the package itself lies
+    # there.
     here, package = os.getcwd(), os.path.dirname(os.path.dirname(os.path.abspath(__file__)))
     sys.path[:] = [
         path for path in sys.path if os.path.abspath(path or ".") != here or here == package

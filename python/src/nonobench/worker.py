@@ -1,4 +1,5 @@
-"""The same questions, asked in a separate process, which is ended if an answer takes too long or too much memory."""
+"""The same questions, asked in a separate process, which is ended if an answer takes too long or
+too much memory."""
 
 from __future__ import annotations
 
@@ -10,15 +11,17 @@ import sys
 import threading
 import time
 import weakref
+from collections import deque
 from types import TracebackType
-from typing import Optional
+from typing import Any, Iterator, Optional, Sequence
 
 from ._calls import Questions
 from ._library import version
-from ._process import Child, uninterrupted, waited
+from ._process import Child, folders, uninterrupted, waited
 from ._serve import NO_MEMORY
 
-# After so many seconds more than it may take, a question ends the process by itself, should nobody be there to end it.
+# After so many seconds more than it may take, a question ends the process by itself, should nobody
+# be there to end it.
 _GRACE = 2
 _MOST_ALARM = 2**31 - 1
 _LONGEST = 3600.0  # seconds that the system is asked to wait
@@ -26,16 +29,18 @@ _NO_PYTHON = "a Worker needs a Python in sys.executable, and not {!r}"
 
 
 class Worker(Questions):
-    """Asks in another process. A call raises TimeoutError if the answer takes too long, and the next one starts a new process.
+    """Asks in another process. A call raises TimeoutError if the answer takes too long, and the
+    next one starts a new process.
 
         with nonobench.Worker(seconds=5) as worker:
             worker.check(picture, certificate)
 
-    Threads may share a worker: their calls are made one after another. `seconds` bounds the time by the clock, and `processor` the
-    processor time of a call, in whole seconds. `memory` bounds the process, in bytes; if that is not enough, the call raises MemoryError.
-    The first call starts the process. It ends with `close`, with the `with`, with the last reference to the worker, with this program,
-    and if an exception is raised while a call waits, for example by Ctrl-C or a task queue's limit. So a late answer is never taken for
-    the answer to a later question.
+    Threads may share a worker: their calls are made one after another. `seconds` bounds the time by
+    the clock, and `processor` the processor time of a call, in whole seconds. `memory` bounds the
+    process, in bytes; if that is not enough, the call raises MemoryError. The first call starts the
+    process. It ends with `close`, with the `with`, with the last reference to the worker, with this
+    program, and if an exception is raised while a call waits, for example by Ctrl-C or a task
+    queue's limit. So a late answer is never taken for the answer to a later question.
     """
 
     def __init__(
@@ -53,19 +58,22 @@ class Worker(Questions):
         if processor is not None and not 0 < self._processor <= _MOST_ALARM:
             raise ValueError("processor must be above 0, and finite")
         self._number = 0
-        if os.name == "nt":
-            raise OSError("a Worker needs Linux")
         if not sys.executable:
             raise OSError(_NO_PYTHON.format(sys.executable))
         version()  # so that it is told here where there is no library
         self._begin()
         _WORKERS.add(self)
 
+    def _program(self) -> tuple[str, bool]:
+        """The module whose program the process runs, and whether it needs more libraries than
+        Python's own."""
+        return "_serve", False
+
     def _begin(self) -> None:
-        """Begins without a process: also in a child that was forked, which must neither ask nor end its parent's."""
-        self._lock = (
-            threading.RLock()
-        )  # a signal's handler may call while a call of its thread waits
+        """Begins without a process: also in a child that was forked, which must neither ask nor end
+        its parent's."""
+        # a signal's handler may call while a call of its thread waits
+        self._lock = threading.RLock()
         self._process: Optional[_Process] = None
         self._asked: Optional[_Process] = None
 
@@ -81,7 +89,8 @@ class Worker(Questions):
         self.close()
 
     def close(self) -> None:
-        """Ends the process. The next call starts another one. In a signal's handler it ends the call that it interrupted: RuntimeError."""
+        """Ends the process. The next call starts another one. In a signal's handler it ends the
+        call that it interrupted: RuntimeError."""
         with self._lock:
             process, self._process = self._process, None
             if process:
@@ -90,15 +99,27 @@ class Worker(Questions):
                 self._asked.stop()
 
     def _answer(self, kind: int, *files: bytes) -> tuple[int, list[bytes]]:
+        found: list[tuple[int, list[bytes]]] = []
+        self._ask_all([(kind, *files)], found)
+        return found[0]
+
+    def _ask_all(
+        self, questions: Sequence[tuple[Any, ...]], found: list[tuple[int, list[bytes]]]
+    ) -> None:
+        """Appends the answers to questions (a kind and its files) as they come. Raises why one does
+        not come; those behind it are not asked then."""
         with self._lock:
-            # The process is this call's alone until its answer has been read whole. Whatever is raised before, it never goes back.
+            # The process is this call's alone until its answers have been read whole. Whatever is
+            # raised before, it never goes back.
             process, self._process, before = self._process, None, self._asked
             try:
                 if not process or not process.is_waiting():
-                    process = uninterrupted(lambda: _Process(self._memory))
+                    process = uninterrupted(lambda: _Process(self._memory, *self._program()))
                 self._asked = process
-                self._number += 1
-                answer = process.ask(self._number, kind, files, self._seconds, self._processor)
+                first, self._number = self._number + 1, self._number + len(questions)
+                asked = process.ask(first, questions, self._seconds, self._processor)
+                for answer in asked:
+                    found.append(answer)
             except BaseException as error:
                 if process:
                     error = process.why() if isinstance(error, EOFError) else error
@@ -107,25 +128,25 @@ class Worker(Questions):
             finally:
                 self._asked = before
             self._process = process
-            return answer
 
 
 _WORKERS: weakref.WeakSet[Worker] = weakref.WeakSet()
-if os.name != "nt":
-    os.register_at_fork(
-        after_in_child=lambda: list(map(Worker._begin, _WORKERS))
-    )  # before a thread of the child can call
+os.register_at_fork(
+    after_in_child=lambda: list(map(Worker._begin, _WORKERS))
+)  # before a thread of the child can call
 
 
 class _Process(Child):
-    """A process that answers questions one after the other, with Python's own library alone."""
+    """A process that answers questions one after the other."""
 
-    def __init__(self, memory: int) -> None:
-        super().__init__("_serve", memory, ("-S", "-B"), cwd="/", start_new_session=True)
+    def __init__(self, memory: int, module: str, has_libraries: bool) -> None:
+        paths = folders() if has_libraries else ()
+        super().__init__(module, memory, ("-S", "-B"), paths, cwd="/", start_new_session=True)
 
     def why(self) -> Exception:
-        """What is told of a process that ended in the middle of a question: by status 1 Python tells what its program raised. Its status
-        seems to be 0 where it is lost: SIGCHLD is ignored, or another part of the program waits for all that end.
+        """What is told of a process that ended in the middle of a question: by status 1 Python
+        tells what its program raised. Its status seems to be 0 where it is lost: SIGCHLD is
+        ignored, or another part of the program waits for all that end.
         """
         if self.is_stopped:
             return RuntimeError("the worker was closed while it was asked")
@@ -147,24 +168,27 @@ class _Process(Child):
         )
 
     def ask(
-        self, number: int, kind: int, files: tuple[bytes, ...], seconds: float, processor: int
-    ) -> tuple[int, list[bytes]]:
-        """The status and the texts that come for a question. Raises TimeoutError where they come too late, and EOFError where none do."""
-        deadline = time.monotonic() + seconds
-        self._spent = time.monotonic() + (
-            processor or math.inf
-        )  # before that it has not had its processor time
-        self.send(
-            number,
-            b"%d %d %d" % (kind, min(math.ceil(seconds) + _GRACE, _MOST_ALARM), processor),
-            *files,
-        )
-        while not (answers := self.answers()):
-            left = deadline - time.monotonic()
-            if left <= 0:
-                raise TimeoutError(f"no answer within {seconds:g} seconds")
-            waited([self], min(left, _LONGEST))
-        answered, (status, *texts) = answers[0]
-        if answered != number:
-            raise RuntimeError(f"the worker answered question {answered} instead of {number}")
-        return int(status), [text for text in texts if text]
+        self, first: int, questions: Sequence[tuple[Any, ...]], seconds: float, processor: int
+    ) -> Iterator[tuple[int, list[bytes]]]:
+        """The status and the texts that come for each question, which are numbered from the first
+        one. Raises TimeoutError where they come too late, and EOFError where none do."""
+        alarm = min(math.ceil(seconds) + _GRACE, _MOST_ALARM)
+        for number, (kind, *files) in enumerate(questions, first):
+            self.put(number, b"%d %d %d" % (kind, alarm, processor), *files)
+        self.write()
+        come: deque[tuple[int, list[bytes]]] = deque()
+        for number in range(first, first + len(questions)):
+            begun = time.monotonic()
+            # before that it has not had its processor time
+            self._spent = begun + (processor or math.inf)
+            while not come:
+                come.extend(self.answers())
+                left = begun + seconds - time.monotonic()
+                if not come and left <= 0:
+                    raise TimeoutError(f"no answer within {seconds:g} seconds")
+                if not come:
+                    waited([self], min(left, _LONGEST))
+            answered, (status, *texts) = come.popleft()
+            if answered != number:
+                raise RuntimeError(f"the worker answered question {answered} instead of {number}")
+            yield int(status), [text for text in texts if text]

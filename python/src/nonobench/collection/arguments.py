@@ -3,393 +3,274 @@
 from __future__ import annotations
 
 import argparse
-import contextlib
-import functools
 import os
-import re
-from dataclasses import dataclass, field
-from typing import Optional, Sequence
+import sys
+from typing import NamedTuple, NoReturn, Optional
 
 from .._answers import FLAW_KINDS
+from .._calls import MOST_ALLOWANCE
 from .._library import version
-from .finding import (
-    ENDINGS,
-    MADE,
-    SUFFIXES,
-    find,
-    folders_of,
-    front_of,
-    is_among,
-    is_behind_link,
-    place_among,
-    real_place,
-    unreached,
-    without_nested,
-)
-from .readers import ground_of
-
-_ENDINGS = frozenset((*SUFFIXES, ".givens", ".background", *(f".{ending}" for ending in ENDINGS)))
+from .puzzles import Options
+from .reading import background_named
 
 ABOUT = """Says which puzzles of a collection are fit to be published: each has one solution and no flaw.
 
-PATH is a file, or a folder that is searched: pictures (plain and raw PPM, PGM and PBM, PNG, GIF, BMP, WebP, one pixel per cell),
-.non puzzles, and Web Paint-by-Number's XML with every puzzle in it. NAME.cert, a certificate, beside NAME.png is checked; NAME.givens
-has the cells that are published with the puzzle, and NAME.background its background."""
+PATH is a folder that is searched, or files: pictures (PPM, PGM, PBM, PNG, one pixel per cell), .non puzzles, and Web
+Paint-by-Number's XML with one puzzle. A certificate of x.png is x.png.cert and is checked; x.png.givens has the cells that are
+published with the puzzle, and x.png.background its background."""  # noqa: E501
 
 EXAMPLES = """examples:
   nonobench-audit site                                      a table of all puzzles below the folder site
   nonobench-audit site --html report.html                   a report to look at, in one file
   nonobench-audit site --jsonl rows.jsonl --csv rows.csv --certify certificates
   nonobench-audit site --jsonl rows.jsonl --resume          after an interruption: only what is new or changed
-  nonobench-audit site --jsonl rows.$SLURM_ARRAY_TASK_ID --shard $SLURM_ARRAY_TASK_ID/16
-  nonobench-audit merge rows.* --jsonl rows.jsonl --html report.html
-  nonobench-audit site --scheduler tcp://ada.example:8786 --allow 20000 --jsonl rows.jsonl
+  nonobench-audit site --certified                          only certificates count: a check, and no search
+  nonobench-audit uploads --untrusted --beside ours --sqlite puzzles.db
+  nonobench-audit unpack set.xml folder                     a file for each puzzle of a set
 
 status:
-  0  every puzzle is fit to be published, and each certificate beside it is accepted
-  1  some puzzles are ambiguous, undecided or flawed, or have a certificate that is not accepted
+  0  every puzzle is fit to be published, and each certificate is accepted
+  1  some puzzle is not: ambiguous, undecided, flawed, unreadable, or with a certificate that is refused
   2  the arguments are wrong
-  3  a file could not be read or written, or a library is missing; what is done is kept
-  130, 143  it was stopped; what is done is kept"""
+  3  the run failed: a folder or an output, a library that is missing; what is done is kept
+  130, 143  it was stopped; what is done is kept"""  # noqa: E501
+
+MOST_SECONDS = 1_000_000
 
 
-@dataclass(frozen=True)
-class Options:
+class Arguments(NamedTuple):
     """What is asked for."""
 
-    paths: list[str]
-    among: dict[str, str] = field(
-        default_factory=dict
-    )  # the outputs in folders of strangers, and their paths without a link
-    jsonl: Optional[str] = None
-    csv: Optional[str] = None
-    html: Optional[str] = None
-    title: Optional[str] = None
-    is_quiet: bool = False
-    jobs: int = 1
-    seconds: Optional[float] = 10.0
-    allowance: Optional[int] = None
-    memory: int = 1024
-    ground: str = "white"
-    certificates: Optional[str] = None
-    givens: Optional[str] = None
-    is_untrusted: bool = False
-    certify: Optional[str] = None
-    publish: Optional[str] = None
-    allowed: Sequence[str] = ()
-    is_resumed: bool = False
-    shard: tuple[int, int] = (1, 1)
-    scheduler: Optional[str] = None
-    is_merge: bool = False
+    folder: Optional[str]  # that is searched; else there are files
+    files: list[str]
+    list_of_files: Optional[str]
+    beside: Optional[str]
+    options: Options
+    jsonl: Optional[str]
+    csv: Optional[str]
+    html: Optional[str]
+    sqlite: Optional[str]
+    certify: Optional[str]
+    ppm: Optional[str]
+    title: str
+    is_quiet: bool
+    is_resumed: bool
+    jobs: int
+    scheduler: Optional[str]
+
+    def outputs(self) -> list[str]:
+        """The files that are written."""
+        named = (self.jsonl, self.csv, self.html, self.sqlite)
+        return [name for name in named if name is not None and name != "-"]
 
 
-def options_of(words: list[str]) -> Options:
-    """The options of arguments. Wrong ones end the program with status 2, and help with 0."""
-    if words[:1] == ["merge"]:
-        return _merge_options(words[1:])
+def arguments_of(words: list[str]) -> Arguments:
+    """What words ask for. Wrong ones end the program with status 2, and help with 0."""
     parser = _parser()
-    told = parser.parse_args(words)
-    del told.no_grade
-    if told.is_resumed and told.jsonl in (None, "-"):
-        parser.error("--resume goes with --jsonl FILE")
-    for path in told.paths:
-        if not os.path.lexists(path):
-            parser.error(
-                f"no such file or folder: {path!r}"
-                + (" (a folder of that name is ./merge)" if path == "merge" else "")
-            )
-        _refuse_way_back(parser, path)
-    _refuse_outputs(parser, told, told.certify, told.publish)
-    _hold_outputs(parser, told)
-    nested = unreached(told.paths)
-    if nested is not None:
-        parser.error(
-            f"{nested[0]!r} lies in {nested[1]!r}, whose search leaves it out: name it in a run of its own"
-        )
-    if told.publish is not None:
-        _refuse_publishing(parser, told)
-    if told.certify is not None:
-        _refuse_certifying(parser, told)
-    for option, wanted in (
-        ("certify", told.certify),
-        ("ppm", told.publish),
-        ("certificates", told.certificates),
-        ("givens", told.givens),
-    ):
-        if wanted is not None:
-            _refuse_twins(parser, told.paths, option)
-    if told.seconds is None and told.allowance is None:
-        told.seconds = Options.seconds
-    return Options(**vars(told))
-
-
-def _hold_outputs(parser: argparse.ArgumentParser, told: argparse.Namespace) -> None:
-    """Where outputs are: what becomes a link in a folder of strangers later is an error."""
-    folders = folders_of(told.paths) if told.is_untrusted else frozenset()
-    files = [name for name in (told.jsonl, told.csv, told.html) if name not in (None, "-")]
-    wanted = [name for name in (*files, told.certify, told.publish) if name is not None]
-    places = {name: place_among(name, folders) for name in wanted}
-    for name in wanted:
-        if is_behind_link(name, folders):
-            parser.error(f"{name!r} is a link in a folder of strangers, or lies behind one")
-    told.among = {name: places[name] for name in files if places[name] is not None}
-    told.certify, told.publish = (
-        name and (places[name] or os.path.realpath(name)) for name in (told.certify, told.publish)
+    found = vars(parser.parse_args(words))
+    paths = found.pop("paths")
+    allowed = tuple(found.pop("allowed"))
+    if found["list_of_files"] is not None and paths:
+        parser.error("--files-from goes without a PATH")
+    if found["list_of_files"] is None and not paths:
+        parser.error("name a folder, or files")
+    folder = paths[0] if len(paths) == 1 and os.path.isdir(paths[0]) else None
+    options = Options(
+        **{name: found.pop(name) for name in Options._fields if name in found},
+        allowed=allowed,
+        is_certifying=found["certify"] is not None,
+        is_publishing=found["ppm"] is not None,
     )
+    files = [] if folder is not None else paths
+    arguments = Arguments(folder=folder, files=files, options=options, **found)
+    _refuse(parser, arguments)
+    return arguments
+
+
+def _refuse(parser: argparse.ArgumentParser, arguments: Arguments) -> None:
+    """Ends the program where arguments do not go together."""
+    for path in arguments.files:
+        if os.path.isdir(path):
+            parser.error(f"{path!r} is a folder: name one folder, or files")
+        if not os.path.lexists(path):
+            parser.error(f"no such file or folder: {path!r}")
+        _refuse_paths_elsewhere(parser, arguments, path)
+    if arguments.is_resumed and not (arguments.sqlite or arguments.jsonl not in (None, "-")):
+        parser.error("--resume goes with --jsonl FILE or --sqlite FILE")
+    if [arguments.jsonl, arguments.csv].count("-") > 1 or "-" in (arguments.html, arguments.sqlite):
+        parser.error("standard output has room for one: --jsonl - or --csv -")
+    if arguments.options.is_certified and (arguments.certify or arguments.ppm):
+        parser.error("--certified makes no certificates")
+    _refuse_outputs(parser, arguments)
+
+
+def refused_elsewhere(path: str) -> bool:
+    """Whether a path cannot be laid out below another folder."""
+    return os.path.isabs(path) or ".." in path.split("/")
+
+
+def _refuse_paths_elsewhere(
+    parser: argparse.ArgumentParser, arguments: Arguments, path: str
+) -> None:
+    has_folder = arguments.beside or arguments.certify or arguments.ppm
+    if has_folder and refused_elsewhere(path):
+        parser.error(f"{path!r} has no place below the folder of --beside, --certify or --ppm")
+
+
+def _refuse_outputs(parser: argparse.ArgumentParser, arguments: Arguments) -> None:
+    """An output may lie neither in what is searched, nor at another one's place."""
+    folders = [name for name in (arguments.certify, arguments.ppm) if name is not None]
+    seen = {os.path.realpath(path) for path in arguments.files}
+    for name in [*arguments.outputs(), *folders]:
+        path = os.path.realpath(name)
+        if not name or (os.path.isdir(path) and name not in folders):
+            parser.error(f"{name!r} is no name for an output")
+        if path in seen and name not in folders:
+            parser.error(f"{name!r} is an input, or another output")
+        if arguments.folder is not None and _is_within(path, os.path.realpath(arguments.folder)):
+            parser.error(f"{name!r} lies in {arguments.folder!r}, which is searched")
+        seen.add(path)
+
+
+def _is_within(path: str, folder: str) -> bool:
+    return path == folder or path.startswith(os.path.join(folder, ""))
 
 
 def _parser() -> argparse.ArgumentParser:
     parser = argparse.ArgumentParser(
         "nonobench-audit",
-        usage="nonobench-audit [OPTION].. PATH..\n       nonobench-audit merge [OPTION].. FILE..",
+        usage=(
+            "nonobench-audit [OPTION].. FOLDER\n       nonobench-audit [OPTION].. FILE..\n"
+            "       nonobench-audit unpack SET.xml DIR"
+        ),
         description=ABOUT,
         epilog=EXAMPLES,
         formatter_class=argparse.RawDescriptionHelpFormatter,
         allow_abbrev=False,
     )
-    parser.add_argument(
-        "paths",
-        metavar="PATH",
-        nargs="+",
-        help="files, and folders to search; links to folders are not followed",
-    )
-    _add_outputs(parser)
-    write = parser.add_argument_group("what else is written")
-    write.add_argument(
-        "--certify",
-        metavar="DIR",
-        help="write NAME.cert for each puzzle with one solution below this folder",
-    )
-    write.add_argument(
-        "--ppm",
-        metavar="DIR",
-        dest="publish",
-        help="write the picture that was judged, with its givens and background, as NAME.ppm below this folder, such as "
-        "that of --certify",
-    )
-    read = parser.add_argument_group("what is read")
-    read.add_argument(
-        "--certificates",
-        metavar="DIR",
-        type=_folder,
-        help="certificates are below this folder, not beside the puzzles",
-    )
-    read.add_argument(
-        "--givens",
-        metavar="DIR",
-        type=_folder,
-        help="NAME.givens and NAME.background are below this folder, not beside the puzzles",
-    )
-    read.add_argument(
-        "--untrusted",
-        action="store_true",
-        dest="is_untrusted",
-        help="for files of strangers: nothing beside the puzzles is read, but only what is in the folders of --certificates "
-        "and --givens, and no links",
-    )
-    read.add_argument(
-        "--background",
-        metavar="COLOUR",
-        dest="ground",
-        type=_ground,
-        default="white",
-        help="of pictures: white (the default), corner (the first pixel), or R,G,B",
-    )
-    bounds = parser.add_argument_group("bounds")
-    bounds.add_argument(
-        "--jobs",
-        metavar="N",
-        type=_above_0,
-        default=len(os.sched_getaffinity(0)),
-        help="processes (by default one per processor)",
-    )
-    bounds.add_argument(
-        "--seconds", metavar="S", type=_seconds, help="for each puzzle (by default 10)"
-    )
-    bounds.add_argument(
-        "--allow",
-        metavar="N",
-        dest="allowance",
-        type=_allowance,
-        help="splits of a search, 0 to 99999, instead of seconds: the same files give the same rows, without times",
-    )
-    bounds.add_argument(
-        "--memory",
-        metavar="MIB",
-        type=_memory,
-        default=1024,
-        help="for each process (by default 1024)",
-    )
-    parts = parser.add_argument_group("in parts, and on several machines")
-    parts.add_argument(
-        "--resume",
-        action="store_true",
-        dest="is_resumed",
-        help="keep the rows of --jsonl FILE whose puzzles have not changed",
-    )
-    parts.add_argument(
-        "--shard",
-        metavar="I/N",
-        type=_shard,
-        default=(1, 1),
-        help="only the I-th of N shares of the files, which their names decide; see merge",
-    )
-    parts.add_argument(
-        "--scheduler", metavar="ADDRESS", help="use the workers of this Dask scheduler"
-    )
+    parser.add_argument("paths", metavar="PATH", nargs="*", help="a folder to search, or files")
+    parser.add_argument("--version", action="version", version=f"nonobench-audit {version()}")
+    _add_inputs(parser.add_argument_group("what is read"))
+    _add_outputs(parser.add_argument_group("output (without a file, a table on standard output)"))
+    _add_bounds(parser.add_argument_group("bounds"))
     return parser
 
 
-def _add_outputs(parser: argparse.ArgumentParser) -> None:
-    parser.add_argument("--version", action="version", version=f"nonobench-audit {version()}")
-    parser.add_argument(
-        "--no-grade", action="store_true", help=argparse.SUPPRESS
-    )  # an old option: grades took most of the time
-    add_allowed(parser)
-    outputs = parser.add_argument_group(
-        "output (without any of these files, a table on standard output)"
+def _add_inputs(group: argparse._ArgumentGroup) -> None:
+    add = group.add_argument
+    add(
+        "--files-from",
+        metavar="FILE",
+        dest="list_of_files",
+        help="the names of files, one a line; - is standard input",
     )
-    outputs.add_argument(
-        "--jsonl", metavar="FILE", help="a line of JSON for each puzzle; - is standard output"
+    add(
+        "--beside",
+        metavar="DIR",
+        type=_folder,
+        help="certificates, givens and backgrounds lie below this folder, at the paths of puzzles",
     )
-    outputs.add_argument("--csv", metavar="FILE", help="for spreadsheets; - is standard output")
-    outputs.add_argument(
-        "--html", metavar="FILE", help="a report to look at, in one file that needs no network"
+    add(
+        "--untrusted",
+        action="store_true",
+        dest="is_untrusted",
+        help="for strangers' files: what lies beside puzzles, and givens within XML, do not count",
     )
-    outputs.add_argument(
-        "--title",
-        metavar="TEXT",
-        type=lambda word: word.encode("utf-8", "backslashreplace").decode("utf-8"),
-        help="of the report",
+    add(
+        "--background",
+        metavar="COLOUR",
+        type=_background,
+        default="auto",
+        help="of pictures that name none: auto (PNG: transparent, white, or all corners), white, "
+        "or R,G,B",
     )
-    outputs.add_argument(
-        "--quiet", action="store_true", dest="is_quiet", help="neither table nor progress"
+    add(
+        "--certified",
+        action="store_true",
+        dest="is_certified",
+        help="each puzzle needs a certificate that is accepted; nothing is searched",
     )
-
-
-def add_allowed(parser: argparse.ArgumentParser) -> None:
-    """Adds the option for flaws that somebody puts up with."""
-    parser.add_argument(
+    add(
         "--allow-flaw",
         metavar="KIND",
         dest="allowed",
         action="append",
         choices=FLAW_KINDS,
         default=[],
-        help="flaws that count for nothing: blank, background (named, and in no cell), given (not needed), alike (colours) or any; "
-        "may be repeated",
+        help=f"flaws that count for nothing: {', '.join(FLAW_KINDS)}; may be repeated",
     )
 
 
-def _merge_options(words: list[str]) -> Options:
-    parser = argparse.ArgumentParser(
-        "nonobench-audit merge",
-        usage="nonobench-audit merge [OPTION].. FILE..",
-        allow_abbrev=False,
-        description="Joins files that --jsonl wrote into one, as a single run would have written it. If files have different rows for a puzzle, the last file counts.",
+def _add_outputs(group: argparse._ArgumentGroup) -> None:
+    add = group.add_argument
+    add("--jsonl", metavar="FILE", help="a line of JSON for each puzzle; - is standard output")
+    add("--csv", metavar="FILE", help="for spreadsheets; - is standard output")
+    add("--html", metavar="FILE", help="a report to look at, in one file that needs no network")
+    add("--title", metavar="TEXT", type=_title, default="Puzzles", help="of the report")
+    add("--sqlite", metavar="FILE", help="a database, in whose table each file has a row")
+    add(
+        "--resume",
+        action="store_true",
+        dest="is_resumed",
+        help="keep the rows of --jsonl or --sqlite of which nothing has changed",
     )
-    parser.add_argument("paths", metavar="FILE", nargs="+", help="as --jsonl wrote it")
-    _add_outputs(parser)
-    told = parser.parse_args(words)
-    del told.no_grade
-    for path in told.paths:
-        if not os.path.exists(path):
-            parser.error(f"no such file: {path!r}")
-    _refuse_outputs(parser, told)
-    return Options(**vars(told), is_merge=True)
+    add("--certify", metavar="DIR", help="write x.png.cert for each puzzle with one solution")
+    add(
+        "--ppm",
+        metavar="DIR",
+        help="write x.png.ppm for each, with its certificate, givens and background",
+    )
+    add("--quiet", action="store_true", dest="is_quiet", help="neither table nor progress")
 
 
-def _refuse_way_back(parser: argparse.ArgumentParser, path: str) -> None:
-    """Its letters, by which places are compared, must lead where the system goes."""
-    if ".." in path.split("/") and os.path.realpath(os.path.normpath(path)) != os.path.realpath(
-        path
-    ):
-        parser.error(f"{path!r} goes back behind a link: name {os.path.realpath(path)!r}")
+def _add_bounds(group: argparse._ArgumentGroup) -> None:
+    add = group.add_argument
+    add(
+        "--seconds",
+        metavar="S",
+        type=_whole(1, MOST_SECONDS),
+        default=10,
+        help="of processor time for each puzzle (10); ten times as many by the clock",
+    )
+    add(
+        "--memory",
+        metavar="MIB",
+        type=_whole(64, 1 << 20),
+        default=1024,
+        help="for each process (1024)",
+    )
+    add(
+        "--max-guesses",
+        metavar="N",
+        type=_whole(0, MOST_ALLOWANCE),
+        help="of each search: then the same files give the same rows, without times",
+    )
+    add(
+        "--jobs",
+        metavar="N",
+        type=_whole(1, 4096),
+        default=len(os.sched_getaffinity(0)),
+        help="processes (one for each processor)",
+    )
+    add("--scheduler", metavar="ADDRESS", help="use the workers of this Dask scheduler")
 
 
-def _refuse_outputs(
-    parser: argparse.ArgumentParser, told: argparse.Namespace, *folders: Optional[str]
-) -> None:
-    """An output must not take the place of another one, nor of an input: of a puzzle, of what lies beside one, or of rows to be joined."""
-    files = [name for name in (told.jsonl, told.csv, told.html) if name is not None]
-    for name in (name for name in (*files, *folders) if name is not None):
-        if not name or (name, told.html) == ("-", "-"):
-            parser.error(f"{name!r} is no name for an output")
-        _refuse_way_back(parser, name)
-    places = [name if name == "-" else os.path.realpath(name) for name in files]
-    for name, place in zip(files, places):
-        if places.count(place) > 1 and place != os.devnull:
-            parser.error(f"{name!r} is the place of two outputs")
-        if any(os.path.splitext(way)[1].lower() in _ENDINGS for way in (name, place)):
-            parser.error(
-                f"{name!r} is no name for an output: its ending is that of a puzzle, or of what lies beside one"
-            )
-        if (
-            name != "-"
-            and os.path.exists(name)
-            and any(os.path.exists(path) and os.path.samefile(path, name) for path in told.paths)
-        ):
-            parser.error(f"{name!r} is both an input and an output")
+def _whole(least: int, most: int) -> "_Whole":
+    return _Whole(least, most)
 
 
-def _refuse_twins(parser: argparse.ArgumentParser, paths: list[str], option: str) -> None:
-    """Two paths must not give one certificate its name, as `SET.3` of the third puzzle in SET.xml; nor have the givens of one puzzle."""
-    every, is_written = dict.fromkeys(map(os.path.normpath, paths)), option in ("certify", "ppm")
-    stems = {
-        found.path: [found.stem]
-        for found in find([path for path in every if is_written and not os.path.isdir(path)])
-    }
-    named = [
-        (name, path) for path in every for name in stems.get(path) or _names_of(path, is_written)
-    ]
-    seen = dict(named)
-    for name, path in named:
-        numbered = re.fullmatch(r"(.+)\.[1-9][0-9]*", name, re.DOTALL)
-        of = seen.get(numbered[1], path) if numbered else path
-        other = of if of.lower().endswith(".xml") and of != path else seen[name]
-        if other != path and not (
-            name[-1:] != "/" and os.path.isdir(path) and os.path.isdir(other)
-        ):
-            parser.error(f"--{option} would give {other!r} and {path!r} the same names")
+class _Whole:
+    """Reads a whole number between two others."""
 
+    def __init__(self, least: int, most: int) -> None:
+        self._least, self._most = least, most
 
-def _names_of(path: str, is_written: bool) -> list[str]:
-    """What a folder's certificates lie in, and like which of them that is called; or what is read for a file is called after."""
-    name = front_of(path) if os.path.isdir(path) else os.path.basename(path)
-    stem, ending = os.path.splitext(name.rstrip("/"))
-    return [name, stem] if not os.path.isdir(path) or is_written and ending in MADE else [name]
-
-
-def _refuse_publishing(parser: argparse.ArgumentParser, told: argparse.Namespace) -> None:
-    """Pictures are not written where puzzles or givens are read: they would be read as others, or take their place."""
-    if told.scheduler is not None:
-        parser.error("--ppm does not go with --scheduler")
-    other = os.path.realpath(told.publish)
-    for path in (*told.paths, *([told.givens] if told.givens is not None else [])):
-        for one in (
-            os.path.realpath(path),
-            *([] if os.path.isdir(path) else [real_place(path)]),
-        ):  # beside a link to a file, givens are read
-            if os.path.commonpath([one, other]) in (one, other):
-                parser.error(f"--ppm {told.publish!r} and {path!r} lie in each other")
-
-
-def _refuse_certifying(parser: argparse.ArgumentParser, told: argparse.Namespace) -> None:
-    """Certificates are written beside their own puzzles or beside none: others below a path would take them for theirs."""
-    outer, among = without_nested(told.paths), folders_of(told.paths)
-    places: dict[str, str] = {}
-    for path in outer:
-        is_folder = os.path.isdir(path)
-        to = os.path.realpath(
-            os.path.join(told.certify, front_of(path) if is_folder and len(outer) > 1 else "")
-        )
-        if to != os.path.realpath(path if is_folder else os.path.dirname(path)):
-            places.setdefault(to, path)
-    for to, path in places.items():
-        if is_among(to, among) and os.path.isdir(to) and any(True for _ in find([to])):
-            parser.error(
-                f"--certify {told.certify!r}: certificates of {path!r} would lie beside other puzzles, in {to!r}"
-            )
+    def __call__(self, word: str) -> int:
+        if not word.isascii() or not word.isdigit() or len(word) > 9:
+            raise argparse.ArgumentTypeError("must be a whole number")
+        if not self._least <= int(word) <= self._most:
+            raise argparse.ArgumentTypeError(f"must be {self._least} to {self._most}")
+        return int(word)
 
 
 def _folder(word: str) -> str:
@@ -398,35 +279,33 @@ def _folder(word: str) -> str:
     return word
 
 
-def _ground(word: str) -> str:
+def _background(word: str) -> str:
     try:
-        ground_of(word)
+        background_named(word)
     except ValueError as error:
-        raise argparse.ArgumentTypeError(str(error)) from None
+        raise argparse.ArgumentTypeError(str(error)) from error
     return word
 
 
-def _whole(least: int, most: int, word: str) -> int:
-    if not re.fullmatch("[0-9]{1,9}", word) or not least <= int(word) <= most:
-        raise argparse.ArgumentTypeError(f"must be a whole number from {least} to {most}")
-    return int(word)
+def _title(word: str) -> str:
+    return word.encode("utf-8", "backslashreplace").decode("utf-8")
 
 
-_above_0, _allowance, _memory = (
-    functools.partial(_whole, *bounds) for bounds in ((1, 1024), (0, 99_999), (128, 1 << 20))
-)
+def unpack_arguments(words: list[str]) -> tuple[str, str]:
+    """The set and the folder of `unpack`."""
+    parser = argparse.ArgumentParser(
+        "nonobench-audit unpack",
+        description="Writes a file for each puzzle of an XML set, with its title and givens.",
+    )
+    parser.add_argument("set", metavar="SET.xml")
+    parser.add_argument("folder", metavar="DIR", help="is made; what lies there must be no puzzle")
+    found = parser.parse_args(words)
+    if os.path.isdir(found.folder) and os.listdir(found.folder):
+        parser.error(f"{found.folder!r} is not empty")
+    return found.set, found.folder
 
 
-def _seconds(word: str) -> float:
-    with contextlib.suppress(ValueError):
-        if 0.01 <= float(word) <= 1e6:
-            return float(word)
-    raise argparse.ArgumentTypeError("must be a number of seconds from 0.01 on")
-
-
-def _shard(word: str) -> tuple[int, int]:
-    parts = re.fullmatch("([0-9]{1,6})/([0-9]{1,6})", word)
-    shard = (int(parts[1]), int(parts[2])) if parts else (0, 0)
-    if not 1 <= shard[0] <= shard[1]:
-        raise argparse.ArgumentTypeError("must be I/N, with I from 1 to N")
-    return shard
+def fail(why: str, status: int = 3) -> NoReturn:
+    """Ends the program."""
+    print(f"nonobench-audit: {why}", file=sys.stderr)
+    sys.exit(status)

@@ -1,86 +1,252 @@
-"""Asks the proved library about one puzzle after the other, in the process that calls it."""
+"""What is said of a puzzle, and a certificate of it: in the process of a `Worker`, whose program
+this is."""
 
 from __future__ import annotations
 
-from dataclasses import replace
+import json
+import time
 from typing import Optional
 
-from .. import _library as library
-from .._answers import Assessment, assessment_of
-from .._calls import NO_ALLOWANCE, picture_of
-from .puzzles import BLACK, WHITE, Puzzle, Unreadable, need
+from .. import _images, _serve
+from .._answers import (
+    Assessment,
+    CertificateFault,
+    Fault,
+    Given,
+    Ruling,
+    UnpublishedGiven,
+    givens_of,
+    refused_flaws,
+)
+from .._calls import Colour, Questions, colour_word, picture_of
+from .._hints import hint_of
+from .._library import DONE, MEMORY, Desk
+from . import reading, webpbn
+from .puzzles import BLACK, WHITE, Missing, Options, Question, Row, Unreadable, need
+from .reading import Picture
+from .rows import graded, shown_in
+from .shapes import shape_of
+
+JUDGE, CERTIFY = 101, 102  # kinds of questions, besides those of _serve
 
 
-class Desk:
-    """A desk of the library, for one puzzle after the other."""
+class _OnOneDesk(Questions):
+    """The questions of this process, which has one thread."""
 
     def __init__(self) -> None:
-        self._desk = library.Desk().__enter__()
+        self._desk: Optional[Desk] = None
 
-    def painted(self, puzzle: Puzzle) -> Puzzle:
-        """A puzzle as a P3 text. A .non puzzle is the picture of its goal, or that was found for its clues, in its own colours.
+    def _answer(self, kind: int, *files: bytes) -> tuple[int, list[bytes]]:
+        if self._desk is None:
+            self._desk = Desk().__enter__()
+        return _serve.answer_on(self._desk, kind, *files)
 
-        Clues do not say which colours its givens have: with these, one without a goal is refused, as `nonobench assess` does.
-        """
-        if not puzzle.is_non:
-            return puzzle
-        if puzzle.published:
-            # What is no certificate is refused without a search.
-            if self._desk.assess(puzzle.text, True, b"", b"", b"", 0) == library.MEMORY:
-                raise MemoryError
-            need(self._desk.text() != b"non NoGoal", "non NoGoal")
-        text = self._say(puzzle.text, b"", b"write ppm\n", True)
-        if puzzle.inks != (WHITE, BLACK):
-            size, _, *cells = text.splitlines()[1:]
-            columns, rows = map(int, size.split(" "))
-            text = picture_of(
-                columns, rows, (puzzle.inks[cell == "0 0 0"] for cell in cells)
-            ).decode("ascii")
-        return replace(puzzle, text=text.encode("ascii"), is_non=False)
 
-    def assess(
-        self, puzzle: Puzzle, certificate: Optional[bytes], allowance: Optional[int] = None
-    ) -> Assessment:
-        """What is said of a puzzle: by a certificate, or by a search under an allowance."""
-        most = NO_ALLOWANCE if allowance is None else allowance
-        return assessment_of(
-            self._text(
-                self._desk.assess(
-                    puzzle.text, False, puzzle.word(), puzzle.published, certificate, most
-                )
-            )
-        )
+_library = _OnOneDesk()
 
-    def certify(self, puzzle: Puzzle, said: Assessment) -> str:
-        """A certificate of a `painted` puzzle with one solution. Raises MemoryError.
 
-        It has lemmas, which make it short, where the puzzle needs guesses and has no givens. Where none such is found, it is a tree.
-        """
-        if said.open and not puzzle.givens:
-            found = self._text(self._desk.prove(puzzle.text, puzzle.word()))
-            if found.startswith("nono"):
-                return found
-        front = b"".join(b"pin %d %d\n" % place for place in puzzle.givens)
-        *oks, tree = self._say(puzzle.text, puzzle.word(), front + b"certify\n").split(
-            "\n", len(puzzle.givens)
-        )
-        if "refused: Memory" in oks or tree.startswith("refused: "):
-            raise MemoryError
-        return tree
+def parts_of(question: Question, options: Options) -> list[bytes]:
+    """A question as it goes to the process."""
+    is_there = [part is not None for part in question[2:4]]
+    background = None if question.background is None else question.background.decode("latin-1")
+    head = [question.name, background, question.ignored, is_there, options]
+    return [json.dumps(head).encode("ascii"), question.data, question[2] or b"", question[3] or b""]
 
-    def _say(self, text: bytes, word: bytes, lines: bytes, is_non: bool = False) -> str:
-        """What a bench on a puzzle answers to lines."""
-        status, bench = self._desk.open(text, word, is_non)
-        self._text(status)
-        said = self._text(self._desk.say(bench, lines))
-        self._desk.close(bench)
-        return said
 
-    def _text(self, status: int) -> str:
-        """The text of a call that went well."""
-        if status == library.MEMORY:
-            raise MemoryError
-        text = self._desk.text().decode("ascii")
-        if status != library.DONE:
-            raise Unreadable(text or "the background is larger than the picture's samples")
-        return text
+def _question_of(parts: tuple[bytes, ...]) -> tuple[Question, Options]:
+    head, data, certificate, givens = parts
+    name, background, ignored, (has_certificate, has_givens), options = json.loads(head)
+    question = Question(
+        name,
+        data,
+        certificate if has_certificate else None,
+        givens if has_givens else None,
+        None if background is None else background.encode("latin-1"),
+        tuple(ignored),
+    )
+    return question, Options(*options)
+
+
+def answer(kind: int, *parts: bytes) -> tuple[int, list[bytes]]:
+    """The answer to a question of an audit, or to one of the library."""
+    if kind not in (JUDGE, CERTIFY):
+        return _serve.answer(kind, *parts)
+    question, options = _question_of(parts)
+    if kind == JUDGE:
+        return DONE, [json.dumps(row_of(question, options)).encode("ascii")]
+    try:
+        made = files_of(question, options)
+    except MemoryError:
+        raise
+    except Exception:  # one puzzle must not end the run
+        made = {}
+    files = {ending: text.decode("ascii") for ending, text in made.items()}
+    return DONE, [json.dumps(files).encode("ascii")]
+
+
+def serve(memory: int) -> None:
+    """Answers questions. Libraries are loaded before memory is bounded."""
+    _images.prepare()
+    webpbn.prepare()
+    _serve.serve(memory, answer)
+
+
+def row_of(question: Question, options: Options) -> Row:
+    """The row of a puzzle, whatever its bytes are."""
+    begun = time.process_time()
+    row: Row = {"file": question.name}
+    try:
+        row.update(_judged(question, options))
+    except Missing as error:
+        row.update(verdict="error", fit=False, error=str(error), missing=error.library)
+    except (Unreadable, Fault, ValueError) as error:
+        row.update(verdict="error", fit=False, error=str(error))
+    except MemoryError:
+        raise
+    except Exception as error:  # one puzzle must not end the run
+        row.update(verdict="error", fit=False, error=f"{type(error).__name__}: {error}")
+    if options.max_guesses is None:
+        row["seconds"] = round(time.process_time() - begun, 4)
+    return row
+
+
+def _judged(question: Question, options: Options) -> Row:
+    picture = _painted(reading.picture_of(question, options), options)
+    row: Row = {"title": picture.title} if picture.title else {}
+    said: Optional[Assessment] = None
+    if question.certificate is not None:
+        said, row["certificate"] = _by_certificate(picture, question.certificate)
+    elif options.is_certified:
+        raise Unreadable("there is no certificate")
+    if said is None and options.is_certified:
+        raise Unreadable(f"its certificate is refused: {row['certificate']['why']}")
+    if said is None:
+        said = _assessed(picture, None, options.max_guesses)
+    is_accepted = row.get("certificate", {"accepted": True})["accepted"]
+    flaws = [str(flaw) for flaw in said.flaws]
+    is_fit = said.verdict.ruling is Ruling.UNIQUE and not refused_flaws(flaws, options.allowed)
+    row.update(
+        verdict=said.verdict.ruling.value,
+        fit=is_fit and is_accepted,
+        **_figures(said, flaws),
+        **_shown(picture, said),
+    )
+    ignored = [*question.ignored, *picture.ignored]
+    if ignored:
+        row["ignored"] = ignored
+    if row["verdict"] == "undecided" or "unknown" in row:
+        row["limit"] = options.limit()
+    return row
+
+
+def _figures(said: Assessment, flaws: list[str]) -> Row:
+    """What a row has of an assessment."""
+    row: Row = {"rows": said.rows, "columns": said.columns, "open": said.open, **graded(said)}
+    if flaws:
+        row["flaws"] = flaws
+    if said.unknown:
+        row["unknown"] = list(said.unknown)
+    return row
+
+
+def _shown(picture: Picture, said: Assessment) -> Row:
+    """The picture of a row, its givens, and a second solution."""
+    palette, letters = shown_in(picture.text, picture.background, said.rows * said.columns)
+    width = said.columns
+    rows = "/".join([letters[at : at + width] for at in range(0, len(letters), width)])
+    row: Row = {
+        "colours": len(palette),
+        "background": palette[0],
+        "background_from": picture.background_from,
+        "palette": palette,
+        "picture": rows,
+        "shape": shape_of(rows),
+    }
+    if picture.givens:
+        row["givens"] = [list(given) for given in _cells_of(picture.givens)]
+    if said.verdict.other:
+        row["other"] = "/".join(said.verdict.other)
+    return row
+
+
+def _cells_of(givens: bytes) -> list[Given]:
+    """The cells of a file of givens that was accepted, in row order."""
+    words = [line.split(b" ") for line in givens.splitlines()]
+    return sorted(Given(int(row), int(column)) for _, row, column in words)
+
+
+def _by_certificate(picture: Picture, certificate: bytes) -> tuple[Optional[Assessment], Row]:
+    """What a certificate proves, if it is accepted, and what is said of it."""
+    try:
+        said = _assessed(picture, certificate, 0)
+    except UnpublishedGiven as fault:
+        return None, {
+            "accepted": False,
+            "why": str(fault),
+            "givens": [list(given) for given in fault.givens],
+        }
+    except CertificateFault as fault:
+        hint = hint_of(fault, certificate)
+        return None, {"accepted": False, "why": f"{fault} ({hint})" if hint else str(fault)}
+    givens = [list(given) for given in givens_of(certificate)]
+    return said, {"accepted": True, "givens": givens} if givens else {"accepted": True}
+
+
+def _assessed(
+    picture: Picture, certificate: Optional[bytes], allowance: Optional[int]
+) -> Assessment:
+    background = None if picture.is_non else picture.background
+    return _library.assess(
+        picture.text, certificate, background, picture.givens, allowance, picture.is_non
+    )
+
+
+def _painted(picture: Picture, options: Options) -> Picture:
+    """A picture as a P3 text. A .non puzzle is the picture of its goal, or that is found for its
+    clues; these do not say which colours givens have."""
+    if not picture.is_non:
+        return picture
+    if picture.givens or options.is_certified:
+        try:  # of a puzzle with a goal, an empty certificate is refused, and without a search
+            _assessed(picture, b"", 0)
+        except CertificateFault:
+            pass
+    with Desk() as desk:
+        status, bench = desk.open(picture.text, b"", True)
+        status = desk.say(bench, b"write ppm\n") if status == DONE else status
+        text = desk.text()
+    if status == MEMORY:
+        raise MemoryError
+    need(text.startswith(b"P3"), text.decode("ascii"))
+    size, _, *cells = text.splitlines()[1:]
+    columns, rows = map(int, size.split())
+    colours = (picture.background or WHITE, picture.ink)
+    if colours != (WHITE, BLACK):
+        text = picture_of(columns, rows, (colours[cell == b"0 0 0"] for cell in cells))
+    return picture._replace(text=text, is_non=False)
+
+
+def files_of(question: Question, options: Options) -> dict[str, bytes]:
+    """A certificate of a puzzle with one solution, and the picture that it is of. None is there
+    where a search reached its bounds."""
+    picture = _painted(reading.picture_of(question, options), options)
+    certificate = _made(picture.text, picture.background, picture.givens)
+    if certificate is None:
+        return {}
+    files = {".cert": certificate} if options.is_certifying else {}
+    if not options.is_publishing:
+        return files
+    files.update({".ppm": picture.text, ".ppm.cert": certificate})
+    if picture.background is not None:
+        files[".ppm.background"] = colour_word(picture.background) + b"\n"
+    if picture.givens:
+        files[".ppm.givens"] = picture.givens
+    return files
+
+
+def _made(text: bytes, background: Optional[Colour], givens: bytes) -> Optional[bytes]:
+    """A certificate: with lemmas, which make it short, or a tree where none such is found."""
+    if not givens:
+        found = _library.prove(text, background).certificate
+        return found or _library.certify(text, background)
+    return _library.certify_with(text, background, _cells_of(givens))

@@ -1,22 +1,19 @@
-"""What an audit knows of a puzzle before it is judged, and why a file holds none."""
+"""What an audit is asked of a puzzle, and answers; and why a file holds none."""
 
 from __future__ import annotations
 
-import functools
 import re
-from dataclasses import dataclass
-from typing import Optional
+from typing import Any, NamedTuple, Optional
 
-# As for the program: bytes of a file, cells of a side, colours with the background.
-MOST_BYTES = 16_777_216
-MOST_CELLS = 120
-MOST_COLOURS = 16
+from .._calls import Colour
 
-Triple = tuple[int, int, int]
-WHITE: Triple = (255, 255, 255)
-BLACK: Triple = (0, 0, 0)
+MOST_COLOURS = 16  # with the background
+WHITE: Colour = (255, 255, 255)
+BLACK: Colour = (0, 0, 0)
+Row = dict[str, Any]  # as docs/rows.schema.json has it
 
-# What does not belong in a line of text: control characters, and marks that turn the direction of writing.
+# What does not belong in a line of text: control characters, and marks that turn the direction of
+# writing.
 _UNSEEN = re.compile(
     "[\x00-\x1f\x7f-\x9f\u061c\u200b-\u200f\u2028-\u202e\u2060-\u2069\ufeff\ud800-\udfff]"
 )
@@ -24,46 +21,59 @@ MOST_TITLE = 200
 
 
 class Unreadable(Exception):
-    """A file, or a puzzle of it, is not read. The text says why in one line."""
-
-
-def need(is_right: object, why: str) -> None:
-    """Refuses a file, or a puzzle of it, where something is not right."""
-    if not is_right:
-        raise Unreadable(why)
+    """A puzzle is not read. The text says why in one line."""
 
 
 class Missing(Unreadable):
     """A library is not installed that a file or an option needs."""
 
-    def __init__(self, library: str, what: str) -> None:
-        super().__init__(f"{library}, which {what}, is not installed (pip install {library})")
+    def __init__(self, library: str, use: str) -> None:
+        super().__init__(f"{library}, which {use}, is not installed (pip install {library})")
         self.library = library
 
 
-@dataclass(frozen=True)
-class Puzzle:
-    """A puzzle as the library takes it."""
+class Question(NamedTuple):
+    """One puzzle, as bytes, with what belongs to it. The ending of its name counts where the bytes
+    do not say what it is."""
 
-    text: bytes  # a P3 text, or a .non text
-    is_non: bool = False
-    background: Optional[Triple] = None  # where one is named, else white
-    published: bytes = b""  # the file of the cells that are given: lines `given R C`
-    title: str = ""
-    inks: tuple[Triple, Triple] = (
-        WHITE,
-        BLACK,
-    )  # the colours of a .non text: its background, and that of its clues
+    name: str
+    data: bytes
+    certificate: Optional[bytes] = None
+    givens: Optional[bytes] = None  # lines `given R C`
+    background: Optional[bytes] = None  # `white` or R,G,B
+    ignored: tuple[str, ...] = ()  # what lies beside it and is not believed
 
-    @functools.cached_property
-    def givens(self) -> tuple[tuple[int, int], ...]:
-        """The cells that are given, rows and columns from 1, in row order, where the file is right."""
-        words = [line.split(b" ") for line in self.published.splitlines()]
-        return tuple(sorted((int(row), int(column)) for _, row, column in words))
 
-    def word(self) -> bytes:
-        """The background as the library takes it."""
-        return b"" if self.background is None else b"%d,%d,%d" % self.background
+class Options(NamedTuple):
+    """What changes an answer."""
+
+    background: str = "auto"  # of pictures that name none: auto, white or R,G,B
+    seconds: int = 10  # of processor time for each puzzle; ten times as many by the clock
+    memory: int = 1024  # MiB of a process
+    max_guesses: Optional[int] = None  # of each search: 0 to 99,999
+    allowed: tuple[str, ...] = ()  # kinds of flaws that count for nothing
+    is_untrusted: bool = False  # the givens and the background that XML names count for nothing
+    is_certified: bool = False  # a certificate must be there and accepted; nothing is searched
+    is_certifying: bool = False  # a certificate is made
+    is_publishing: bool = False  # the picture is written as P3, with its certificate
+
+    def limit(self) -> Row:
+        """The bound that leaves a puzzle undecided."""
+        bounds: Row = {"seconds": self.seconds, "memory": self.memory}
+        return bounds if self.max_guesses is None else {**bounds, "guesses": self.max_guesses}
+
+
+class Answer(NamedTuple):
+    """The row of a puzzle, and the files to be written for it, by what follows its name."""
+
+    row: Row
+    files: dict[str, bytes] = {}
+
+
+def need(is_right: object, why: str) -> None:
+    """Refuses a puzzle where something is not right."""
+    if not is_right:
+        raise Unreadable(why)
 
 
 def one_line(text: str, most: int = MOST_TITLE) -> str:

@@ -2,39 +2,37 @@
 
 from __future__ import annotations
 
-import sys
 from collections import Counter
 from typing import Iterable, Sequence
 
-from .arguments import Options
-from .finding import shown
-from .rows import GRADES, VERDICTS, WRITTEN, Row, flaws_of, printable, unwritten
+from .puzzles import Row
+from .rows import FITNESS, GRADES, VERDICTS, fitness_of, flaws_of
 
-ALL_UNIQUE, SOME_NOT, ERRORS = 0, 1, 3
+FIT, UNFIT, FAILED = 0, 1, 3
 
 
 class Tally:
-    """How many puzzles have which verdict, grade and flaw, but for flaws of the kinds that are allowed."""
+    """How many puzzles have which verdict, grade and flaw, but for flaws of the kinds that are
+    allowed."""
 
     def __init__(self, allowed: Sequence[str]) -> None:
         self.allowed = allowed
+        self.fitness: Counter[str] = Counter()
         self.verdicts: Counter[str] = Counter()
         self.grades: Counter[str] = Counter()
         self.flaws: Counter[str] = Counter()
-        self._missing: Counter[str] = Counter()
-        self._unwritten: Counter[str] = Counter()  # by what was not written
-        self._bare = 0  # unique, without a certificate
+        self.same = 0
+        self.missing: Counter[str] = Counter()  # libraries
+        self.skipped: Counter[str] = Counter()
 
     def put(self, row: Row) -> None:
         """Counts a row."""
+        self.fitness[fitness_of(row)] += 1
         self.verdicts[row["verdict"]] += 1
         self.flaws.update(flaws_of(row, self.allowed))
-        for counts, name in ((self.grades, "grade"), (self._missing, "missing")):
-            if name in row:
-                counts[row[name]] += 1
-        if "note" in row:
-            self._unwritten.update(word for word in WRITTEN if unwritten(word) in row["note"])
-        self._bare += row["verdict"] == "unique" and "lines" not in row
+        self.same += "same_as" in row
+        self.grades.update(row[name] for name in ("grade",) if name in row)
+        self.missing.update(row[name] for name in ("missing",) if name in row)
 
     @property
     def total(self) -> int:
@@ -43,45 +41,22 @@ class Tally:
 
     def status(self) -> int:
         """The status of a run that came to its end."""
-        if self.verdicts["error"] or self._unwritten:
-            return ERRORS
-        return ALL_UNIQUE if self.total == self.verdicts["unique"] and not self.flaws else SOME_NOT
+        if self.missing or not self.total:
+            return FAILED
+        return FIT if self.fitness["fit"] == self.total else UNFIT
 
-    def summary(self) -> str:
+    def summary(self) -> list[str]:
         """The lines that end a run."""
+        noun = "puzzle" if self.total == 1 else "puzzles"
         lines = [
-            f"{self.total} {'puzzle' if self.total == 1 else 'puzzles'}{f': {counted(self.verdicts, VERDICTS)}' if self.total else ''}"
+            f"{self.total} {noun}: {counted(self.fitness, FITNESS)}",
+            f"verdicts: {counted(self.verdicts, VERDICTS)}",
+            f"grades: {counted(self.grades, GRADES)}",
+            f"flaws: {counted(self.flaws, sorted(self.flaws))}",
+            f"same clues as another: {self.same}" if self.same else ":",
+            f"skipped: {counted(self.skipped, sorted(self.skipped))}",
         ]
-        if self.grades:
-            lines.append(f"grades: {counted(self.grades, GRADES)}")
-        if self.flaws:
-            lines.append(f"besides: {counted(self.flaws, sorted(self.flaws))}")
-        return "\n".join(lines)
-
-    def warn(
-        self, options: Options, is_stopped: bool, told: dict[str, list[str]], left: int = 0
-    ) -> None:
-        """Says on standard error what kept the run from judging all, what is told of files, and how many rows were left out."""
-        lines = [
-            f"{count} not read, since {name} is not installed"
-            for name, count in sorted(self._missing.items())
-        ]
-        lines += [
-            f"{word}s not written: {count}" for word, count in sorted(self._unwritten.items())
-        ]
-        if self._bare and options.certify is not None:
-            lines.append(f"unique, but no certificate made in time or memory: {self._bare}")
-        if left:
-            lines.append(f"rows left out, of files that are not among these: {left}")
-        for why, paths in told.items():
-            if paths:
-                more = f" and {len(paths) - 1} more" if paths[1:] else ""
-                lines.append(f"{printable(shown(paths[0]))}{more}: {why}")
-        if is_stopped:
-            again = " (--resume goes on)" if options.jsonl not in (None, "-") else ""
-            lines.append(f"stopped after {self.total} puzzles{again}")
-        for line in lines:
-            print(f"nonobench-audit: {line}", file=sys.stderr)
+        return [line for line in lines if line.partition(":")[2].strip()]
 
 
 def counted(counts: Counter[str], names: Iterable[str]) -> str:

@@ -1,237 +1,147 @@
-"""Web Paint-by-Number's XML puzzle sets, read as nonobench's page reads them: every puzzle of a file.
+"""Web Paint-by-Number's XML, of one puzzle, as nonobench's page reads it; and a set as files of one
+puzzle each.
 
-The format is Wolter's, https://webpbn.com/pbn_fmt.html. Givens stand as a saved solution with the id `givens`, which has `?` in
-all other cells. defusedxml reads the XML: entities and what lies outside the file are refused.
+The format is Wolter's, https://webpbn.com/pbn_fmt.html. Givens stand as a saved solution with the
+id `givens`, which has `?` in all other cells. defusedxml reads the XML.
 """
 
 from __future__ import annotations
 
-import io
 import itertools
 import re
-from typing import Any, Callable, Iterator, NamedTuple, Optional
+from typing import Any, Iterator, NamedTuple, Optional
+from xml.etree.ElementTree import Element, tostring
 
-from .._calls import picture_of
-from .puzzles import (
-    BLACK,
-    MOST_CELLS,
-    MOST_COLOURS,
-    WHITE,
-    Missing,
-    Puzzle,
-    Triple,
-    Unreadable,
-    need,
-    one_line,
-)
+from .._calls import MOST_CELLS, Colour, picture_of
+from .puzzles import BLACK, MOST_COLOURS, WHITE, Missing, Unreadable, need, one_line
 
-MOST_ELEMENTS = 200_000  # in one puzzle
-MOST_DEPTH = 32
-MOST_PUZZLES = 10_000  # in one file
-MOST_PART = (
-    1 << 20
-)  # bytes of a tag or a comment, about: expat reads it again with each piece of the file
 SPACE = " \t\r\n"  # of XML; other letters count nowhere for blanks
-MOST_SPACE = 200  # characters of a namespace, which each name in it repeats
-NO_MEMORY = 1  # an error of expat
 GIVENS = "givens"
+SEVERAL = "{} puzzles, and a file has one: nonobench-audit unpack SET.xml DIR"
+# A text of the format declares nothing but which format it is.
+_DOCTYPE = re.compile(
+    rf'<!DOCTYPE[{SPACE}]+[a-z]+([{SPACE}]+SYSTEM[{SPACE}]+"[^"<>]*")?[{SPACE}]*>'
+)
 Signs = list[list[str]]
-_CELL = r"\\[^\r\n]|\[[^]\r\n]*\]|[^|\\\[\r\n]"  # of a row: line breaks are none, since not all readers count them alike
-_ENTITY = re.compile(rb"&(?!(?:lt|gt|amp|quot|apos|#[0-9]+|#x[0-9a-fA-F]+);)")
+# of a row: line breaks are none, since not all readers count them alike
+_CELL = r"\\[^\r\n]|\[[^]\r\n]*\]|[^|\\\[\r\n]"
 
 
-class Colour(NamedTuple):
+class Ink(NamedTuple):
     """A colour of a puzzle. Its sign stands for it in solutions."""
 
     name: str
     sign: Optional[str]
-    triple: Triple
+    triple: Colour
     is_declared: bool
 
 
-def puzzles_of_xml(data: bytes, tell: Callable[[], Any]) -> Iterator[Puzzle | Unreadable]:
-    """Each puzzle of an XML text, or why it is none. What is wrong with the XML itself is raised; and it tells of each piece."""
+class Drawn(NamedTuple):
+    """A puzzle of the format: a P3 text, or, if it has clues only, a .non text and two colours."""
+
+    text: bytes
+    background: Colour
+    givens: bytes
+    title: str
+    ink: Optional[Colour] = None  # of a .non text
+
+
+def prepare() -> None:
+    """Loads defusedxml, if it is there."""
+    try:
+        import defusedxml.ElementTree  # noqa: F401
+    except ImportError:
+        pass
+
+
+def puzzle_of_xml(data: bytes) -> Drawn:
+    """The puzzle of an XML text that has one."""
+    puzzles = elements_of(data)
+    need(len(puzzles) < 2, SEVERAL.format(len(puzzles)))
+    return puzzle_of(puzzles[0])
+
+
+def files_of(data: bytes) -> Iterator[bytes]:
+    """Each puzzle of a set, as an XML text of its own."""
+    for element in elements_of(data):
+        element.tail = None
+        text = tostring(element, encoding="unicode")
+        yield f'<?xml version="1.0"?>\n<puzzleset>{text}</puzzleset>\n'.encode()
+
+
+def elements_of(data: bytes) -> list[Element]:
+    """The puzzles of an XML text, at least one."""
     try:
         from defusedxml import ElementTree
         from defusedxml.common import DefusedXmlException
     except ImportError:
         raise Missing("defusedxml", "reads XML") from None
     try:
-        parser = ElementTree.XMLParser(forbid_entities=True)
-        parser.parser.AttlistDeclHandler = _refuse_attributes
-        parser.parser.StartNamespaceDeclHandler = _look_at_space
-        parser.parser.StartDoctypeDeclHandler = (
-            lambda _name, address, _public, _own: _look_at_address(address or "")
-        )
-        parser.parser.EndDoctypeDeclHandler = lambda: _look_at_entities(data)
-        parser.parser.XmlDeclHandler = lambda _version, coding, _alone: _look_at_coding(
-            data, coding or "utf-8"
-        )
-        yield from _puzzles(
-            ElementTree.iterparse(
-                _Pieces(data, parser.parser, tell), events=("start", "end"), parser=parser
-            )
-        )
+        text = _DOCTYPE.sub("", data.decode("utf-8-sig"), count=1)
+        outer: Element = ElementTree.fromstring(text, forbid_dtd=True)
+    except UnicodeDecodeError as error:
+        raise Unreadable("the XML is not UTF-8") from error
     except DefusedXmlException as error:
-        raise Unreadable(
-            f"the XML cannot be read: it declares entities ({type(error).__name__})"
-        ) from error
-    except (ElementTree.ParseError, ValueError, LookupError) as error:
-        if getattr(error, "code", 0) == NO_MEMORY:
-            raise MemoryError from error
+        raise Unreadable("the XML has declarations of its own") from error
+    except (ElementTree.ParseError, ValueError) as error:
         raise Unreadable(f"the XML cannot be read: {one_line(str(error))}") from error
-
-
-class _Pieces(io.BytesIO):
-    """A text as expat takes it, piece by piece, as long as none of its parts is too long."""
-
-    def __init__(self, data: bytes, expat: Any, tell: Callable[[], Any]) -> None:
-        super().__init__(data)
-        self._expat, self._tell = expat, tell
-        if hasattr(
-            expat, "SetReparseDeferralEnabled"
-        ):  # from 2.6 on, expat would wait until twice as much of a part is there
-            expat.SetReparseDeferralEnabled(False)
-
-    def read(self, size: Optional[int] = -1) -> bytes:
-        """The next piece. What expat has taken and not yet told of is the beginning of one part."""
-        is_short = self.tell() - self._expat.CurrentByteIndex <= MOST_PART
-        need(
-            is_short,
-            f"the XML cannot be read: a tag or a comment of it has more than {MOST_PART} bytes",
-        )
-        self._tell()
-        return super().read(size)
-
-
-def _refuse_attributes(*_declared: Any) -> None:
-    """Each element would get all attributes that are declared for it: thousands, for thousands of elements."""
-    raise Unreadable("the XML cannot be read: it declares attributes")
-
-
-def _look_at_coding(data: bytes, coding: str) -> None:
-    """The page takes each file for UTF-8: in another coding, letters could be others there."""
-    is_known = coding.lower() in ("utf-8", "utf-16") or data.isascii()
-    need(is_known, "the XML cannot be read: it has letters in another coding than UTF-8 or UTF-16")
-
-
-def _look_at_address(address: str) -> None:
-    """Some readers take the first `>` for the end of a document type, and what stands behind it for the puzzle."""
     need(
-        ">" not in address,
-        "the XML cannot be read: the address of its document type has the sign '>'",
+        not outer.tag.lower().endswith("svg"),
+        "this is SVG: convert it to PNG: nonobench.html opens it",
     )
+    every = list(outer.iter())
+    need(not any("}" in one.tag for one in every), "the XML has a namespace")
+    puzzles = [outer] if outer.tag == "puzzle" else outer.findall("puzzle")
+    need(puzzles, "the XML has no puzzle")
+    is_plain = len(puzzles) == sum(one.tag == "puzzle" for one in every)
+    need(is_plain, "the XML has a puzzle that is not directly in its set")
+    return puzzles
 
 
-def _look_at_entities(data: bytes) -> None:
-    """Behind a document type expat leaves out an entity in an attribute that it does not know, and the page leaves it as it stands."""
-    if b"\0" in data[:4] or _ENTITY.search(data):
-        raise Unreadable(
-            "the XML cannot be read: it has a document type, and is in UTF-16 or names an entity that is not declared"
-        )
-
-
-def _look_at_space(prefix: Optional[str], space: Optional[str]) -> None:
-    """The page heeds no namespaces: what is in one without a prefix is an element of the format there, and would be none here."""
-    need(
-        len(space or "") <= MOST_SPACE,
-        f"the XML cannot be read: a namespace of it has more than {MOST_SPACE} characters",
-    )
-    need(
-        prefix is not None or not space,
-        "the XML cannot be read: it has a namespace without a prefix",
-    )
-
-
-def _puzzles(events: Any) -> Iterator[Puzzle | Unreadable]:
-    depth = elements = found = 0
-    outer: Any = None
-    for event, element in events:
-        if event == "start":
-            depth += 1
-            elements += 1
-            outer = element if outer is None else outer
-            need(
-                depth <= MOST_DEPTH and elements <= MOST_ELEMENTS,
-                "the XML cannot be read: it has too many elements",
-            )
-            continue
-        depth -= 1
-        if element.tag != "puzzle":
-            continue
-        need(
-            depth == 0 or (depth == 1 and outer.tag == "puzzleset"),
-            "the XML has a puzzle that is not directly in its set",
-        )
-        found += 1
-        need(found <= MOST_PUZZLES, f"the XML has more than {MOST_PUZZLES} puzzles")
-        try:
-            yield puzzle_of(element)
-        except Unreadable as error:
-            yield error
-        outer.clear()
-        elements = 0
-    need(found, "the XML has no puzzle")
-
-
-def puzzle_of(element: Any) -> Puzzle:
+def puzzle_of(element: Element) -> Drawn:
     """One puzzle, by its goal, or by its clues where it has none and two colours."""
     kind = element.get("type", "grid")
     need(
         kind == "grid", f"a puzzle of the type {one_line(kind, 30)}, which has no rows and columns"
     )
     title = one_line(element.findtext("title") or "")
-    clues = {
-        axis: _clues(element, axis, element.get("defaultcolor", "black"))
-        for axis in ("rows", "columns")
-    }
+    usual = element.get("defaultcolor", "black")
+    clues = {axis: _clues(element, axis, usual) for axis in ("rows", "columns")}
     solutions = element.findall("solution")
-    goals = [one for one in solutions if one.get("type", "goal") == "goal"] or [
-        one for one in solutions if one.get("type") == "solution"
-    ]
+    goals = [one for one in solutions if one.get("type", "goal") == "goal"]
+    goals = goals or [one for one in solutions if one.get("type") == "solution"]
     givens = [one for one in solutions if (one.get("type"), one.get("id")) == ("saved", GIVENS)]
     if not goals:
         need(not givens, "the puzzle has givens and no solution")
-        text, colours, ground = (
-            _non_text(clues),
-            _colours(element),
-            element.get("backgroundcolor", "white"),
-        )
-        used = {name for lines in clues.values() for line in lines or () for _, name in line}
-        need(
-            used | {ground} <= colours.keys(),
-            "the puzzle has clues, or a background, in a colour that it does not have",
-        )
-        need(ground not in used, "the puzzle has clues in the colour of its background")
-        under, ink = _apart(
-            [colours[ground], *(colours[name] for name in sorted(used) or ["black"])]
-        )
-        return Puzzle(text, is_non=True, background=_named(under), title=title, inks=(under, ink))
+        return _drawn_of_clues(element, clues, title)
     signs, *others = map(_image, goals)
-    need(
-        all(other == signs for other in others),
-        "the puzzle has several goals, and they are different pictures",
-    )
-    order, by_sign = _order(
-        _colours(element),
-        element.get("backgroundcolor", "white"),
-        {sign for row in signs for sign in row},
-    )
+    is_one = all(other == signs for other in others)
+    need(is_one, "the puzzle has several goals, and they are different pictures")
+    ground, used = element.get("backgroundcolor", "white"), {sign for row in signs for sign in row}
+    order, by_sign = _order(_inks(element), ground, used)
     cells = [[by_sign[sign].name for sign in row] for row in signs]
     _compare(cells, order[0].name, clues)
     saved = _only(givens, "its givens")
     published = b"" if saved is None else _givens(_image(saved), signs)
-    triples = {colour.name: triple for colour, triple in zip(order, _apart(order))}
+    apart = _apart([ink.triple for ink in order])
+    triples = {ink.name: triple for ink, triple in zip(order, apart)}
     text = picture_of(len(cells[0]), len(cells), [triples[name] for row in cells for name in row])
-    return Puzzle(text, background=_named(order[0].triple), published=published, title=title)
+    return Drawn(text, apart[0], published, title)
 
 
-def _named(ground: Triple) -> Optional[Triple]:
-    """The background as it is named: every puzzle of the format has one, and white where nobody chose it."""
-    return None if ground == WHITE else ground
+def _drawn_of_clues(element: Element, clues: dict[str, Any], title: str) -> Drawn:
+    """A puzzle that has clues and no goal, in two colours."""
+    text, inks = _non_text(clues), _inks(element)
+    ground = element.get("backgroundcolor", "white")
+    used = {name for lines in clues.values() for line in lines or () for _, name in line}
+    is_known = used | {ground} <= inks.keys()
+    need(is_known, "the puzzle has clues, or a background, in a colour that it does not have")
+    need(ground not in used, "the puzzle has clues in the colour of its background")
+    under, ink = _apart([inks[name].triple for name in (ground, *(used or {"black"}))])
+    return Drawn(text, under, b"", title, ink)
 
 
-def _text(element: Any) -> str:
+def _text(element: Element) -> str:
     """The text of an element. Others within it would hide what stands behind them."""
     need(not len(element), "a text of the puzzle has elements in it")
     return element.text or ""
@@ -243,13 +153,10 @@ def _only(elements: list[Any], what: str) -> Any:
     return next(iter(elements), None)
 
 
-def _colours(element: Any) -> dict[str, Colour]:
+def _inks(element: Element) -> dict[str, Ink]:
     """The declared colours by name, and white and black where they are not declared."""
-    known = {
-        "white": Colour("white", ".", WHITE, False),
-        "black": Colour("black", "X", BLACK, False),
-    }
-    colours: dict[str, Colour] = {}
+    known = {"white": Ink("white", ".", WHITE, False), "black": Ink("black", "X", BLACK, False)}
+    colours: dict[str, Ink] = {}
     for one in element.findall("color"):
         name = one.get("name", "")
         need(name not in colours, "a colour of the puzzle is declared twice")
@@ -258,11 +165,11 @@ def _colours(element: Any) -> dict[str, Colour]:
             "a colour of the puzzle has the sign '?', which stands for a cell of any colour",
         )
         sign = one.get("char", known[name].sign if name in known else None)
-        colours[name] = Colour(name, sign, _triple(_text(one)), True)
+        colours[name] = Ink(name, sign, _triple(_text(one)), True)
     return {**colours, **{name: colour for name, colour in known.items() if name not in colours}}
 
 
-def _triple(text: str) -> Triple:
+def _triple(text: str) -> Colour:
     digits = text.strip(SPACE).removeprefix("#")
     if re.fullmatch("[0-9a-fA-F]{3}", digits):
         digits = "".join(digit * 2 for digit in digits)
@@ -274,47 +181,39 @@ def _triple(text: str) -> Triple:
     return red, green, blue
 
 
-def _order(
-    colours: dict[str, Colour], ground: str, used: set[str]
-) -> tuple[list[Colour], dict[str, Colour]]:
+def _order(inks: dict[str, Ink], ground: str, used: set[str]) -> tuple[list[Ink], dict[str, Ink]]:
     """The colours of a solution, its background first, and the colour of each sign."""
-    need(ground in colours, "the background of the puzzle is a colour that it does not have")
-    by_sign: dict[str, Colour] = {}
-    for colour in colours.values():
-        before = by_sign.get(colour.sign or "")
-        if before is not None and before.is_declared and colour.is_declared and colour.sign in used:
-            raise Unreadable(
-                f"two colours of the puzzle have the sign {one_line(before.sign or '', 2)!r}"
-            )
-        if colour.sign and (before is None or colour.is_declared):
-            by_sign[colour.sign] = colour
+    need(ground in inks, "the background of the puzzle is a colour that it does not have")
+    by_sign: dict[str, Ink] = {}
+    for ink in inks.values():
+        before = by_sign.get(ink.sign or "")
+        is_twice = before is not None and before.is_declared and ink.is_declared
+        if is_twice and ink.sign in used:
+            raise Unreadable(f"two colours of the puzzle have the sign {one_line(ink.sign, 2)!r}")
+        if ink.sign and (before is None or ink.is_declared):
+            by_sign[ink.sign] = ink
     for sign in sorted(used - by_sign.keys()):
-        raise Unreadable(
-            f"the solution has a cell {one_line(sign, 2)!r}, which is not a colour of the puzzle"
-        )
-    seen = [
-        colours[ground],
-        *(by_sign[sign] for sign in sorted(used) if by_sign[sign].name != ground),
-    ]
+        why = "which is not a colour of the puzzle"
+        raise Unreadable(f"the solution has a cell {one_line(sign, 2)!r}, {why}")
+    others = [by_sign[sign] for sign in sorted(used) if by_sign[sign].name != ground]
+    seen = [inks[ground], *others]
     need(len(seen) <= MOST_COLOURS, f"more than {MOST_COLOURS} colours with the background")
     return seen, by_sign
 
 
-def _apart(order: list[Colour]) -> list[Triple]:
-    """The triples of colours: two that are declared alike stay two, as near as they can be, so that it is told that they look alike."""
-    made: list[Triple] = []
-    for red, green, blue in (colour.triple for colour in order):
+def _apart(triples: list[Colour]) -> list[Colour]:
+    """Colours that are declared alike stay two, as near as they can be, so that it is told that
+    they look alike."""
+    made: list[Colour] = []
+    for red, green, blue in triples:
         blues = sorted(range(256), key=lambda other: abs(other - blue))
-        made.append(
-            next(
-                triple for triple in ((red, green, other) for other in blues) if triple not in made
-            )
-        )
+        made.append(next(one for one in ((red, green, at) for at in blues) if one not in made))
     return made
 
 
 def _image(solution: Any) -> Signs:
-    """Rows of signs between bars. A backslash takes the next sign as it stands, and `[..]` is a cell that may have several."""
+    """Rows of signs between bars. A backslash takes the next sign as it stands, and `[..]` is a
+    cell that may have several."""
     image = _only(solution.findall("image"), "the image of a solution")
     text = "" if image is None else _text(image)
     is_short = len(text) <= 64 * MOST_CELLS * MOST_CELLS
@@ -344,7 +243,8 @@ def _sign(cell: str) -> str:
 
 
 def _clues(element: Any, axis: str, usual: str) -> Optional[list[list[tuple[int, str]]]]:
-    """The clues of an axis as lengths with names of colours, or none where the puzzle does not tell them."""
+    """The clues of an axis as lengths with names of colours, or none where the puzzle does not tell
+    them."""
     clues = _only(
         [one for one in element.findall("clues") if one.get("type") == axis],
         f"the clues of the {axis}",

@@ -2,8 +2,8 @@
 // puzzle.
 'use strict';
 
-const VERDICTS = ['unique', 'ambiguous', 'undecided', 'error'];
-const SHOWN = ['one solution', 'ambiguous', 'undecided', 'error'];
+const FITNESS = ['fit', 'flawed', 'ambiguous', 'undecided', 'error'];
+const SHOWN = ['fit', 'one solution, flawed', 'ambiguous', 'undecided', 'error'];
 const GRADES = ['easy', 'medium', 'hard', 'very hard', 'expert', 'unknown'];
 const FIGURES = ['rounds', 'evaluations', 'longest wait', 'splits', 'depth'];
 const LETTERS = '.abcdefghijklmno';
@@ -42,7 +42,7 @@ const NAMES = [
   'title',
   'rows',
   'columns',
-  'verdict',
+  'fitness',
   'grade',
   'open',
   'palette',
@@ -55,12 +55,13 @@ const NAMES = [
   'figures',
   'flaws'
 ];
+const LISTS = new Set(['givens', 'figures', 'flaws']);
 const at = Object.fromEntries(NAMES.map((name, place) => [name, place]));
 const records = JSON.parse(byId('rows').textContent);
 byId('rows').remove();
 const sides =
     Uint8Array.from(records, (record) => Math.max(record[at.rows] ?? 0, record[at.columns] ?? 0));
-const verdicts = Uint8Array.from(records, (record) => record[at.verdict]);
+const fitness = Uint8Array.from(records, (record) => record[at.fitness]);
 const grades = Int8Array.from(records, (record) => record[at.grade] ?? -1);
 
 /** The cells of runs as numbers of colours. */
@@ -75,9 +76,9 @@ function cellsOf(runs) {
 /** A puzzle of a record, with its cells and those that differ in the second solution. */
 function puzzleOf(index) {
   const record = records[index];
-  const puzzle = Object.fromEntries(NAMES.map(
-      (name, place) => [name, record[place] ?? (name === 'givens' || name === 'figures' ? [] : '')]
-  ));
+  const puzzle = Object.fromEntries(
+      NAMES.map((name, place) => [name, record[place] ?? (LISTS.has(name) ? [] : '')])
+  );
   puzzle.grade = record[at.grade] ?? -1;
   puzzle.colours = (puzzle.palette.match(/.{6}/g) ?? []).map((hex) => `#${hex}`);
   puzzle.cells = cellsOf(puzzle.picture);
@@ -161,14 +162,14 @@ function shotsOf(puzzle, most, withCaptions) {
 
 // ---- cards
 
-const verdictOf = ({verdict}) => make(
+const verdictOf = ({fitness}) => make(
     'span',
-    {className: `verdict ${VERDICTS[verdict]}`},
+    {className: `verdict ${FITNESS[fitness]}`},
     make('span', {className: 'sign', 'aria-hidden': 'true'}),
-    SHOWN[verdict]
+    SHOWN[fitness]
 );
 
-function toldOf(puzzle) {
+function figureOf(puzzle) {
   if (puzzle.grade >= 0) return GRADES[puzzle.grade];
   return puzzle.differ.length ? `${puzzle.differ.length} cells differ` : '';
 }
@@ -192,13 +193,14 @@ function cardOf(index, width) {
           {className: 'name', title: puzzle.name},
           puzzle.title || puzzle.name.split('/').at(-1)
       ),
-      make('div', {className: 'told'}, verdictOf(puzzle), make('span', {}, toldOf(puzzle))),
-      puzzle.flaws ? make(
-                         'div',
-                         {className: 'told besides', title: puzzle.words},
-                         make('span', {}, puzzle.words)
-                     ) :
-                     make('div', {className: 'told faint'}, make('span', {}, sizesOf(puzzle)))
+      make('div', {className: 'line'}, verdictOf(puzzle), make('span', {}, figureOf(puzzle))),
+      puzzle.flaws.length ?
+          make(
+              'div',
+              {className: 'line besides', title: puzzle.words},
+              make('span', {}, puzzle.words)
+          ) :
+          make('div', {className: 'line faint'}, make('span', {}, sizesOf(puzzle)))
   );
   const card = make(
       'div',
@@ -209,8 +211,8 @@ function cardOf(index, width) {
   const words = [
     puzzle.name,
     puzzle.title,
-    SHOWN[puzzle.verdict],
-    toldOf(puzzle),
+    SHOWN[puzzle.fitness],
+    figureOf(puzzle),
     sizesOf(puzzle),
     puzzle.words
   ];
@@ -381,7 +383,7 @@ function figuresOf(puzzle) {
       ) => [make('span', {className: 'swatch', style: `background: ${colour}`}), `${colour}  `]
   );
   return [
-    ['Verdict', verdictOf(puzzle)],
+    ['Fit', verdictOf(puzzle)],
     puzzle.columns && ['Size', `${puzzle.columns} columns, ${puzzle.rows} rows`],
     puzzle.columns &&
         [
@@ -410,8 +412,9 @@ function figuresOf(puzzle) {
 // ---- filters and sorting
 
 const filter = {
-  verdict: new Set(),
-  grade: new Set()
+  fitness: new Set(),
+  grade: new Set(),
+  flaw: new Set()
 };
 const choosers = Object.entries(filter).flatMap(
     ([kind, chosen]) => [...document.querySelectorAll(`[data-${kind}]`)].map(
@@ -425,7 +428,7 @@ let differs = null;
 const KEYS = {
   order: () => null,
   name: () => (ranks ??= ranksOf(records.map((record) => record[at.name]))),
-  verdict: () => verdicts,
+  fitness: () => fitness,
   grade: () => grades,
   size: () =>
       Uint16Array.from(records, (record) => (record[at.rows] ?? 0) * (record[at.columns] ?? 0)),
@@ -456,7 +459,9 @@ function wanted() {
   const most = Number(byId('most').value || 255);
   const found = [];
   for (let index = 0; index < records.length; index++) {
-    if (filter.verdict.size && !filter.verdict.has(verdicts[index])) continue;
+    if (filter.fitness.size && !filter.fitness.has(fitness[index])) continue;
+    if (filter.flaw.size && !(records[index][at.flaws] ?? []).some((flaw) => filter.flaw.has(flaw)))
+      continue;
     if (filter.grade.size && !filter.grade.has(grades[index])) continue;
     if (sides[index] < least || sides[index] > most) continue;
     if (text && !lowered[index].includes(text)) continue;
