@@ -1,5 +1,5 @@
-"""What the tests try: the programs, the library and the module, as `rt ci` and the builds left them, or as the release in dist/ has
-them."""
+"""What the tests try: the programs, the library and the module, as `rt ci` and the builds left
+them, or as the release in dist/ has them."""
 
 import atexit
 import fcntl
@@ -84,7 +84,8 @@ def version_of_tree():
 
 
 def changed_crates():
-    """The crates whose code is not that of the release; None where neither dist/SOURCES nor git knows that."""
+    """The crates whose code is not that of the release; None where neither dist/SOURCES nor git
+    knows that."""
     known = _sources_of_release()
     if known is None:
         return None
@@ -113,8 +114,8 @@ def _git_id(place):
 
 
 def _sources_of_release():
-    """The files of the engine at the release with what git calls their contents: as dist/SOURCES has them, else as the tree that
-    dist/README.md names."""
+    """The files of the engine at the release with what git calls their contents: as dist/SOURCES
+    has them, else as the tree that dist/README.md names."""
     listed = ROOT / 'dist' / 'SOURCES'
     if listed.exists():
         return {
@@ -137,7 +138,8 @@ def _sources_of_release():
 
 
 def once(place, make):
-    """A folder that `make` fills: the first process that asks for it makes it, and the others wait."""
+    """A folder that `make` fills: the first process that asks for it makes it, and the others
+    wait."""
     failed = Path(f'{place}.failed')
     with open(f'{place}.lock', 'w') as lock:
         fcntl.flock(lock, fcntl.LOCK_EX)
@@ -181,8 +183,8 @@ def named(made, pattern):
 
 
 class Program:
-    """A program with how it is run: one in JavaScript has other texts for refused arguments, and opens the null device in place of
-    a closed stream."""
+    """A program with how it is run: one in JavaScript has other texts for refused arguments, and
+    opens the null device in place of a closed stream."""
 
     def __init__(self, path, in_node=False):
         self.path, self.in_node = path, in_node
@@ -221,7 +223,8 @@ def ended(words, text=b'', cwd=None, **streams):
 
 
 def passes(words, cwd=ROOT, env=None, seconds=3000, **more):
-    """Runs a check that is a program of its own; what it says is the failure. What it leaves out of itself is told."""
+    """Runs a check that is a program of its own; what it says is the failure. What it leaves out of
+    itself is told."""
     run = subprocess.run(
         [os.fspath(word) for word in words],
         cwd=cwd,
@@ -245,8 +248,8 @@ def passes(words, cwd=ROOT, env=None, seconds=3000, **more):
 
 @functools.cache
 def _clean_folder():
-    """A folder of tools for commands that see nothing of this machine but the system's places, node and Python; and what keeps the
-    network from them, where that is allowed."""
+    """A folder of tools for commands that see nothing of this machine but the system's places, node
+    and Python; and what keeps the network from them, where that is allowed."""
     folder = Path(tempfile.mkdtemp(prefix='nonobench-clean-'))
     atexit.register(shutil.rmtree, folder, ignore_errors=True)
     (folder / 'home').mkdir()
@@ -294,7 +297,8 @@ def node_tests(request, file, env):
 
 
 def dumped(url, home, run_by):
-    """What stands in a page of headless Chromium in the end; `clean` runs it without a network, and `ended` with one."""
+    """What stands in a page of headless Chromium in the end; `clean` runs it without a network, and
+    `ended` with one."""
     found = next(
         (
             shutil.which(name)

@@ -1,14 +1,15 @@
-"""Runs the commands of README.md, docs/TUTORIAL.md and docs/RECIPES.md, each page's in one folder, and compares what they print
-with what the page shows.
+"""Runs the commands of README.md, docs/TUTORIAL.md and docs/RECIPES.md, each page's in one folder,
+and compares what they print with what the page shows.
 
-README's folder has a copy of what its commands name, with the program where a build leaves it. So its commands of installing are
-run, and install this very program below a home of their own. As on a new account, nothing of that is on the PATH.
+README's folder has a copy of what its commands name. So its commands of installing are run, and
+install the release below a home of their own. As on a new account, nothing of that is on the PATH.
 
-A block that begins with ```sh is run; it must end with status 0. A following block that begins with ```text is all that it prints,
-on standard output and standard error. One that begins with ```sh build is not run: its commands would prove everything again,
-install packages, or serve without end (.ci/prose.py knows them). ```sh needs TOOL is left out if the tool is missing. A block that
-begins with ```sh sites wants what a reader has installed: the wheel's command and library, and below PREFIX the C library. It may
-also say how far an audit is. """
+A block that begins with ```sh is run; it must end with status 0. A following block that begins with
+```text is all that it prints, on standard output and standard error. One that begins with ```sh
+build is not run: its commands would prove everything again, install packages, or serve without end
+(.ci/prose.py knows them). ```sh needs TOOL is left out if the tool is missing. A block that begins
+with ```sh sites wants what a reader has installed: the wheel's command and library, and below
+PREFIX the C library. It may also say how far an audit is."""
 
 import difflib
 import os
@@ -30,7 +31,8 @@ PAGES = {
 
 
 def blocks_of(page, kind):
-    """The commands of a page's blocks of a kind with what the tool is that they need, and what they print, or None."""
+    """The commands of a page's blocks of a kind with what the tool is that they need, and what they
+    print, or None."""
     found = []
     for first, content in re.findall(r'(?ms)^```([^\n]+)\n(.*?)^```$', page.read_text()):
         words = first.split()
@@ -46,7 +48,8 @@ def blocks_of(page, kind):
 
 
 def has(tool):
-    """Whether a tool is there. ImageMagick is known by what it says of itself, since other programs are called convert too."""
+    """Whether a tool is there. ImageMagick is known by what it says of itself, since other programs
+    are called convert too."""
     if tool == 'imagemagick':
         return (
             bool(shutil.which('convert'))
@@ -86,11 +89,6 @@ def run_blocks(blocks, folder, env, without=None):
     return missing
 
 
-def install_program(program, folder):
-    folder.mkdir(parents=True)
-    shutil.copy(program, folder / 'nonobench')
-
-
 def plain_blocks(page):
     """The blocks of a page that are run with the program alone."""
     return blocks_of(PAGES[page], lambda words: not words or words[0] == 'needs')
@@ -100,19 +98,16 @@ def plain_blocks(page):
     'page', [page for page in PAGES if page != 'RECIPES' or plain_blocks(page)]
 )
 def test_commands(kept, page, tmp_path):
-    program = kept.program('nonobench')
     (tmp_path / 'home').mkdir()
     here = tmp_path / page
     here.mkdir()
     if page == 'README':
-        for name in ('examples', 'completions', 'packages'):
-            shutil.copytree(ROOT / name, here / name)
+        for name in ('examples', 'packages', 'dist'):
+            (here / name).symlink_to(ROOT / name)
         shutil.copy(ROOT / 'install', here)
-        (here / 'docs').mkdir()
-        shutil.copy(ROOT / 'docs' / 'nonobench.1', here / 'docs')
-        install_program(program, here / 'crates' / 'nonobench' / 'out')
     else:
-        install_program(program, tmp_path / 'bin')
+        (tmp_path / 'bin').mkdir()
+        shutil.copy(kept.program('nonobench'), tmp_path / 'bin')
     blocks = plain_blocks(page)
     assert blocks
     env = {
@@ -159,7 +154,6 @@ def test_commands_for_sites(kept, library, tmp_path):
     commands = {
         'python3': '',
         'nonobench-audit': ' -m nonobench.audit',
-        'nonobench-check-site': ' -m nonobench.check_site',
     }
     for name, words in commands.items():
         command = installed / 'bin' / name

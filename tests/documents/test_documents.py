@@ -1,21 +1,33 @@
-"""The documents: sentences, paths and links, the lists that scripts make, the definitions behind claims, and what is counted of the
-code."""
+"""The documents: sentences, paths and links, the lists that scripts make, the definitions behind
+claims, and what is counted of the code."""
 
 import re
 import sys
 
 import pytest
-from tried import ROOT, passes
+from tried import ROOT, needs, passes
 
-# .ci/prose.py: long sentences, dead paths and links, jargon, and README's commands. .ci/crates.py: the list of crates. .ci/base.py:
-# what the claims stand on. .ci/promises.py: the calls with their clauses. .ci/memory.py: where memory is said to run out.
-# .ci/house.py: what makes the code harder to read, within bounds.
+# .ci/prose.py: long sentences, dead paths and links, and README's commands. .ci/crates.py: the list
+# of crates. .ci/base.py: what the claims depend on. .ci/promises.py: that each contract can be
+# listed. .ci/memory.py: where memory is said to run out. .ci/house.py: places that are hard to
+# read.
 CHECKS = ('prose', 'crates', 'base', 'promises', 'memory', 'house')
 
 
 @pytest.mark.parametrize('name', CHECKS)
 def test_check(name):
     passes([sys.executable, ROOT / '.ci' / f'{name}.py'])
+
+
+def test_format():
+    """Python, JavaScript, C and styles are formatted, and the linters find nothing."""
+    passes([sys.executable, ROOT / '.ci' / 'format.py', '--check'])
+
+
+def test_types():
+    """The package for Python, by mypy; pyproject.toml says what it does not see."""
+    needs('mypy')
+    passes(['mypy', '--no-incremental', '--cache-dir', '/dev/null'])
 
 
 def test_quoted_function():

@@ -1,4 +1,5 @@
-"""Numbers that documents state: limits are those that the code has, and sentences of the comparison those of its rows."""
+"""Numbers that documents state: limits are those that the code has, and sentences of the comparison
+those of its rows."""
 
 import csv
 import re
@@ -9,8 +10,8 @@ from tried import ROOT
 
 WORDS = {'two': 2, 'six': 6, 'ten': 10}
 MIB = 1 << 20
-# Each number of a document, as the words around it with N in its place; what the code counts in, by the document's unit; and the places
-# that have it, as a file and the words before the number.
+# Each number of a document, as the words around it with N in its place; what the code counts in, by
+# the document's unit; and the places that have it, as a file and the words before the number.
 PICTURE = ('crates/picture/src/picture.rt', 'MAX_SIDE: u8 =')
 COLOURS = ('crates/picture/src/picture.rt', 'MAX_COLOURS: u8 =')
 INPUT = ('crates/program/src/input.rt', 'MAX_INPUT: usize =')
@@ -21,227 +22,219 @@ DEPTH = ('crates/edits/src/studio.rt', 'MAX_DEPTH: u16 =')
 HISTORY = ('crates/command_line/src/words.rt', 'DEPTH: u16 =')
 ALLOWANCE = ('crates/live_audit/src/bench.rt', 'MAX_ALLOWANCE: u32 =')
 BOUNDS = 'crates/second_search/src/bounds.rt'
-AUDIT = 'python/src/nonobench/collection/arguments.py'
-SITE = 'python/src/nonobench/check_site.py'
-EXAMPLE = 'examples/site/app.py'
+OPTIONS = 'python/src/nonobench/collection/puzzles.py'
+SERVICE = 'python/src/nonobench/service.py'
 UPLOAD = 'examples/check_upload.mjs'
 IMAGE = ('python/src/nonobench/_calls.py', 'MOST_CELLS =')
-FILES = ('python/src/nonobench/collection/puzzles.py', 'MOST_BYTES =')
+FILES = ('python/src/nonobench/_calls.py', 'MOST_BYTES =')
 REDMEAN = 'crates/flaws/src/alike.rt'
 GRADE = 'crates/grade/src/word.rt'
 STATED = [
-    ('README.md', 'A puzzle has up to N by', 1, [PICTURE]),
-    ('README.md', 'by 120 cells and N colours', 1, [COLOURS]),
-    ('README.md', 'a file is longer than N MiB', MIB, [INPUT]),
-    ('docs/FORMATS.md', 'it is at most N, else TooLarge', 1, [PICTURE]),
-    ('docs/FORMATS.md', 'a row inserted where there are N rows', 1, [PICTURE]),
-    ('docs/FORMATS.md', 'a colour added where there are N', 1, [COLOURS]),
-    ('docs/FORMATS.md', 'It is from 1 to N, else BadMaxval', 1, [MAXVAL]),
-    ('docs/FORMATS.md', 'there are fewer than N colours so far', 1, [COLOURS]),
-    ('docs/FORMATS.md', 'digits only and is from 1 to N, else BadSize', 1, [PICTURE]),
-    ('docs/FORMATS.md', 'A line of more than N bytes is LongLine', 1, [LINE]),
-    ('docs/FORMATS.md', 'A session makes at most N reads', 1, [READS]),
+    ('README.md', 'up to N by 120 cells.', 1, [PICTURE]),
+    ('README.md', 'or up to N colours', 1, [COLOURS]),
+    ('docs/THEOREMS.md', 'a file is longer than N MiB', MIB, [INPUT]),
+    ('docs/FILE-FORMATS.md', 'it is at most N, else TooLarge', 1, [PICTURE]),
+    ('docs/SESSION.md', 'a row inserted where there are N rows', 1, [PICTURE]),
+    ('docs/SESSION.md', 'a colour added where there are N', 1, [COLOURS]),
+    ('docs/FILE-FORMATS.md', 'It is from 1 to N, else BadMaxval', 1, [MAXVAL]),
+    ('docs/FILE-FORMATS.md', 'there are fewer than N colours so far', 1, [COLOURS]),
+    ('docs/FILE-FORMATS.md', 'digits only and is from 1 to N, else BadSize', 1, [PICTURE]),
+    ('docs/SESSION.md', 'A line of more than N bytes is LongLine', 1, [LINE]),
+    ('docs/SESSION.md', 'A session makes at most N reads', 1, [READS]),
     (
-        'docs/FORMATS.md',
+        'docs/SESSION.md',
         'each with room for N bytes',
         1,
         [('crates/command_text/src/lines.rt', ' ROOM: usize =')],
     ),
     (
-        'docs/FORMATS.md',
+        'docs/SESSION.md',
         'a place is from 1 to N',
         1,
         [('crates/command_text/src/numbers.rt', 'A place: a number from 1 to')],
     ),
     (
-        'docs/FORMATS.md',
+        'docs/SESSION.md',
         'a sample from 0 to N',
         1,
         [('crates/command_text/src/numbers.rt', 'with a value up to')],
     ),
     (
-        'docs/FORMATS.md',
+        'docs/FILE-FORMATS.md',
         'the lemma that began has N literals',
         1,
         [('crates/cert_text/src/cert_line.rt', 'MAX_LEMMA_LITERALS: usize =')],
     ),
     (
-        'docs/FORMATS.md',
+        'docs/FILE-FORMATS.md',
         'has 1,024 literals already, or N together',
         1,
         [('crates/cert_text/src/cert_line.rt', 'MAX_LITERALS: usize =')],
     ),
     (
-        'docs/FORMATS.md',
+        'docs/FILE-FORMATS.md',
         '`line`, `use` and `drop` have 1 to N words',
         1,
         [('crates/cert_text/src/runs.rt', 'MAX_RUN: usize =')],
     ),
-    ('docs/FORMATS.md', 'splits (0 to N)', 1, [ALLOWANCE]),
-    ('docs/FORMATS.md', 'N, from 1 to N, is how many edits can be undone', 1, [DEPTH]),
-    ('docs/FORMATS.md', 'is how many edits can be undone; it is N by default', 1, [HISTORY]),
-    ("docs/FORMATS.md", "other than a session's commands has at most N bytes", 1, [INPUT]),
+    ('docs/SESSION.md', 'splits (0 to N)', 1, [ALLOWANCE]),
+    ('docs/SESSION.md', 'N, from 1 to N, is how many edits can be undone', 1, [DEPTH]),
+    ('docs/SESSION.md', 'is how many edits can be undone; it is N by default', 1, [HISTORY]),
+    ("docs/SESSION.md", "other than a session's commands has at most N bytes", 1, [INPUT]),
     (
-        'docs/FORMATS.md',
+        'docs/PAGE-FILES.md',
         'An image has at most N MiB',
         MIB,
         [('page/import/decoding.js', 'MOST_IMAGE =')],
     ),
     (
-        'docs/FORMATS.md',
+        'docs/PAGE-FILES.md',
         'An archive has at most N GiB',
         1024 * MIB,
         [('page/import/taking.js', 'MOST_ARCHIVE =')],
     ),
     (
-        'docs/FORMATS.md',
+        'docs/PAGE-FILES.md',
         'any other file N bytes',
         1,
         [('page/formats/ppm.js', 'MOST_BYTES_READ =')],
     ),
-    ('docs/FORMATS.md', 'A picture of at most N by 120 pixels', 1, [PICTURE]),
+    ('docs/PAGE-FILES.md', 'A picture of at most N by 120 pixels', 1, [PICTURE]),
     (
-        'docs/FORMATS.md',
+        'docs/PAGE-FILES.md',
         'name cells, at most N a line',
         1,
         [('page/formats/ppm_notes.js', 'places.length; at \\+=')],
     ),
     (
-        'docs/FORMATS.md',
+        'docs/PAGE-FILES.md',
         'stored or deflated, of at most N MiB each',
         MIB,
         [('page/formats/zip.js', 'MOST_ENTRY =')],
     ),
     (
-        'docs/FORMATS.md',
+        'docs/PAGE-FILES.md',
         'a picture is searched for up to N seconds',
         1000,
         [('page/import/reading.js', 'MOST_SEARCH =')],
     ),
-    ('docs/FORMATS.md', 'Files are regular, of at most N MiB', MIB, [FILES]),
-    ('docs/FORMATS.md', 'or is longer than N MiB, the row has an error', MIB, [FILES]),
-    ('docs/FORMATS.md', 'An image of more than N by 120 pixels', 1, [IMAGE]),
-    ('docs/FORMATS.md', '(N + s) dr dr', 1, [(REDMEAN, r'    weighted\(')]),
-    ('docs/FORMATS.md', 'dr dr + N dg dg', 1, [(REDMEAN, r'\+ weighted\((?=2)')]),
-    ('docs/FORMATS.md', 'dg dg + (N - s) db db', 1, [(REDMEAN, r'\+ weighted\((?=1)')]),
+    ('docs/AUDIT.md', 'Files are regular, of at most N MiB', MIB, [FILES]),
+    ('docs/AUDIT.md', 'An image of more than N by 120 pixels', 1, [IMAGE]),
+    ('docs/SESSION.md', '(N + s) dr dr', 1, [(REDMEAN, r'    weighted\(')]),
+    ('docs/SESSION.md', 'dr dr + N dg dg', 1, [(REDMEAN, r'\+ weighted\((?=2)')]),
+    ('docs/SESSION.md', 'dg dg + (N - s) db db', 1, [(REDMEAN, r'\+ weighted\((?=1)')]),
     (
-        'docs/FORMATS.md',
+        'docs/PAGE-FILES.md',
         'a PPM picture N pixels a side',
         1,
         [('page/formats/ppm.js', 'MOST_PIXELS =')],
     ),
     (
-        'docs/FORMATS.md',
+        'docs/PAGE-FILES.md',
         'MiB, and N pixels by its header',
         1,
         [('page/import/decoding.js', 'MOST_DECODED =')],
     ),
     (
-        'docs/FORMATS.md',
+        'docs/PAGE-FILES.md',
         'Images above N pixels a side',
         1,
         [('page/import/decoding.js', 'MOST_SIDE =')],
     ),
     (
-        'docs/FORMATS.md',
+        'docs/PAGE-FILES.md',
         'and draws at most N elements',
         1,
         [('page/import/drawn.js', 'MOST_DRAWN =')],
     ),
     (
-        'docs/FORMATS.md',
+        'docs/PAGE-FILES.md',
         'elements nested more than N deep',
         1,
-        [
-            ('page/formats/xml.js', 'MOST_XML_DEPTH ='),
-            ('python/src/nonobench/collection/webpbn.py', 'MOST_DEPTH ='),
-        ],
+        [('page/formats/xml.js', 'MOST_XML_DEPTH =')],
     ),
     (
-        'docs/FORMATS.md',
+        'docs/PAGE-FILES.md',
         'deep, more than N elements',
         1,
-        [
-            ('page/formats/xml.js', 'MOST_XML_ELEMENTS ='),
-            ('python/src/nonobench/collection/webpbn.py', 'MOST_ELEMENTS ='),
-        ],
+        [('page/formats/xml.js', 'MOST_XML_ELEMENTS =')],
     ),
     (
-        'docs/FORMATS.md',
+        'docs/PAGE-FILES.md',
         'TooMany (more than N)',
         1,
         [('page/formats/palettes.js', 'MOST_COLOURS =')],
     ),
     (
-        'docs/FORMATS.md',
+        'docs/PAGE-FILES.md',
         'in at most N characters',
         1,
         [('page/library/records.js', 'MOST_SIGNS =')],
     ),
     (
-        'docs/FORMATS.md',
+        'docs/PAGE-FILES.md',
         'A puzzle of more than N rows or columns',
         1,
         [('page/export/sheets.js', 'MOST_LINES =')],
     ),
     (
-        'docs/FORMATS.md',
+        'docs/PAGE-FILES.md',
         'sizes but the last are multiples of N',
         1,
         [('page/export/sheets.js', r'/ MOST_LINES\) /')],
     ),
-    ('docs/FORMATS.md', '`nonobench: input too long`: more than N bytes', 1, [INPUT]),
+    ('docs/SESSION.md', '`nonobench: input too long`: more than N bytes', 1, [INPUT]),
     (
-        'docs/FORMATS.md',
+        'docs/PAGE-FILES.md',
         'is cut into parts of at most N',
         1,
         [('page/export/sheets.js', 'MOST_LINES =')],
     ),
     (
-        'docs/FORMATS.md',
+        'docs/PAGE-FILES.md',
         'with every tint is at least N to 1',
         1,
         [('tests/page/page_sheets.mjs', 'least >=')],
     ),
     (
-        'docs/FORMATS.md',
+        'docs/PAGE-FILES.md',
         'the page reads at most N files',
         1,
         [('page/import/beside.js', 'MOST_AT_ONCE =')],
     ),
-    ('docs/FORMATS.md', 'db db < N', 1, [(REDMEAN, r'rgb_shown\(maxval, other\)\) <')]),
+    ('docs/SESSION.md', 'db db < N', 1, [(REDMEAN, r'rgb_shown\(maxval, other\)\) <')]),
     (
-        'docs/FORMATS.md',
+        'docs/SESSION.md',
         '| easy | none | at most N rounds',
         1,
         [(GRADE, r'rounds <= (?=.*\n *Word::Easy)')],
     ),
     (
-        'docs/FORMATS.md',
+        'docs/SESSION.md',
         'at most 2 rounds, and a longest wait of at most N',
         1,
         [(GRADE, r'wait <= (?=.*\n *Word::Easy)')],
     ),
     (
-        'docs/FORMATS.md',
+        'docs/SESSION.md',
         '| medium | none | at most N rounds',
         1,
         [(GRADE, r'rounds <= (?=.*\n *Word::Medium)')],
     ),
     (
-        'docs/FORMATS.md',
+        'docs/SESSION.md',
         'at most 4 rounds, and a longest wait of at most N',
         1,
         [(GRADE, r'wait <= (?=.*\n *Word::Medium)')],
     ),
     (
-        'docs/FORMATS.md',
+        'docs/SESSION.md',
         '| very hard | some | at most N splits',
         1,
         [(GRADE, r'splits <= (?=.*\n *Word::VeryHard)')],
     ),
     (
-        'docs/FORMATS.md',
+        'docs/SESSION.md',
         'at most 3 splits, and a depth of at most N',
         1,
         [(GRADE, r'depth <= (?=.*\n *Word::VeryHard)')],
@@ -254,56 +247,15 @@ STATED = [
         1,
         [(BOUNDS, r'window_splits: \d+,\n    conflicts:')],
     ),
-    ('docs/RECIPES.md', 'Only regular files of at most N MiB are read', MIB, [FILES]),
     (
         'docs/RECIPES.md',
-        'Each puzzle has about N seconds',
+        'Each puzzle has N seconds of processor time',
         1,
-        [(AUDIT, r'seconds: Optional\[float\] =')],
+        [(OPTIONS, 'seconds: int =')],
     ),
-    (
-        'docs/RECIPES.md',
-        '(`--seconds`), and each process N MiB',
-        1,
-        [(AUDIT, '"--memory".*default=')],
-    ),
-    (
-        'docs/RECIPES.md',
-        '(`--memory`); a file has N times the seconds',
-        1,
-        [('python/src/nonobench/collection/workers.py', 'MOST_TIMES =')],
-    ),
-    (
-        'docs/FORMATS.md',
-        'every puzzle of a file, of at most N,',
-        1,
-        [('python/src/nonobench/collection/webpbn.py', 'MOST_PUZZLES =')],
-    ),
-    (
-        'docs/FORMATS.md',
-        'with a tag or comment above N MiB',
-        MIB,
-        [('python/src/nonobench/collection/webpbn.py', 'MOST_PART =')],
-    ),
-    (
-        'docs/FORMATS.md',
-        'or is above N characters',
-        1,
-        [('python/src/nonobench/collection/webpbn.py', 'MOST_SPACE =')],
-    ),
-    (
-        'docs/RECIPES.md',
-        'A check has N seconds of processor time',
-        1,
-        [(SITE, '"--processor".*default=')],
-    ),
-    (
-        'docs/RECIPES.md',
-        'of processor time, N seconds of wall-clock time',
-        1,
-        [(SITE, '"--seconds".*default=')],
-    ),
-    ('docs/RECIPES.md', 'of wall-clock time, and N MiB', 1, [(SITE, '"--memory".*default=')]),
+    ('docs/RECIPES.md', '(`--seconds`), and each process N MiB', 1, [(OPTIONS, 'memory: int =')]),
+    ('docs/AUDIT.md', 'the processor time for each puzzle (N)', 1, [(OPTIONS, 'seconds: int =')]),
+    ('docs/AUDIT.md', 'bounds each process (N MiB)', 1, [(OPTIONS, 'memory: int =')]),
     ('packages/npm/README.md', 'an `ArrayBuffer` of at most N bytes', 1, [INPUT]),
     ('packages/npm/README.md', 'from 1 to N; the default is', 1, [DEPTH]),
     ('packages/npm/README.md', 'from 1 to 1,000; the default is N', 1, [HISTORY]),
@@ -340,21 +292,20 @@ STATED = [
         1,
         [('python/src/nonobench/_calls.py', 'MOST_SAMPLE =')],
     ),
-    ('examples/site/README.md', 'an image N by 120 pixels', 1, [IMAGE]),
-    ('examples/site/README.md', 'N uploads are checked at once', 1, [(EXAMPLE, ' WORKERS=')]),
-    ('examples/site/README.md', 'Above N connections one is closed', 1, [(EXAMPLE, 'MOST_OPEN =')]),
-    ('examples/site/README.md', 'If over N wait for answers', 1, [(EXAMPLE, 'MOST_WAITING =')]),
-    # Twice the bytes of an upload.
-    ('examples/site/README.md', 'A body above N MiB', MIB // 2, [(EXAMPLE, 'MAX_CONTENT_LENGTH=')]),
     (
-        'examples/site/README.md',
-        'An upload has at most N MiB',
-        MIB,
-        [(EXAMPLE, 'MAX_CONTENT_LENGTH=')],
+        'docs/RECIPES.md',
+        '`NONOBENCH_SECONDS` | N seconds of processor',
+        1,
+        [(SERVICE, '"SECONDS":')],
     ),
-    ('examples/site/README.md', 'each is ended after N seconds', 1, [(EXAMPLE, ' SECONDS=')]),
-    ('examples/site/README.md', 'in a process with N GiB', 1024 * MIB, [(EXAMPLE, ' MEMORY=')]),
-    ('examples/site/README.md', 'Titles are cut at N characters', 1, [(EXAMPLE, 'MOST_TITLE =')]),
+    ('docs/RECIPES.md', '`NONOBENCH_MEMORY` | N MiB for a process', 1, [(SERVICE, '"MEMORY":')]),
+    ('docs/RECIPES.md', '`NONOBENCH_WAIT` | N seconds', 1, [(SERVICE, '"WAIT":')]),
+    (
+        'docs/RECIPES.md',
+        '`NONOBENCH_MAX_CONTENT_LENGTH` | N MiB',
+        MIB,
+        [(SERVICE, '"MAX_CONTENT_LENGTH":')],
+    ),
     ('docs/THEOREMS.md', 'm rows and n columns, 1 ≤ m, n ≤ N', 1, [PICTURE]),
     ('docs/THEOREMS.md', 'A blank line of at most N bytes', 1, [LINE]),
     ('docs/THEOREMS.md', 'refuses a file of more than N MiB', MIB, [INPUT]),
@@ -362,18 +313,6 @@ STATED = [
     ('docs/TUTORIAL.md', 'Pictures have at most N rows', 1, [PICTURE]),
     ('docs/TUTORIAL.md', 'at most 120 rows, N columns', 1, [PICTURE]),
     ('docs/TUTORIAL.md', '120 columns and N colours', 1, [COLOURS]),
-    (
-        'CONTRIBUTING.md',
-        'Lines have at most N characters in',
-        1,
-        [('.ci/house.py', r"wide_lines\('specs',")],
-    ),
-    (
-        'CONTRIBUTING.md',
-        'in `specs/` and N in `proofs/`',
-        1,
-        [('.ci/house.py', r"wide_lines\('proofs',")],
-    ),
     (
         'page/README.md',
         'on a processor slowed N times',
@@ -494,7 +433,10 @@ def test_sentences_of_the_comparison():
         f'We ran each program on {len(tuned)} pictures',
         f'{sum(tuned.values())} of the {len(tuned)} pictures were chosen because',
         f'the table of the other {len(tuned) - sum(tuned.values())}',
-        f'{took["nonobench"]} and {seconds["nonobench", hard]:.2f} seconds, minisat takes {took["minisat"]} seconds each',
+        (
+            f'{took["nonobench"]} and {seconds["nonobench", hard]:.2f} seconds, minisat takes'
+            f' {took["minisat"]} seconds each'
+        ),
         f'with {took["cadical"]} and {took["gringo, clasp"]}.',
         f'more than {int(median(ratios) // 10) * 10} times as long',
         f'and {["no", "one", "two", "three"][sum(ratio < 1 for ratio in ratios)]} are shorter',

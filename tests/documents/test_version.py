@@ -1,11 +1,11 @@
-"""The version: that of the sources in each place that names it, and that of the newest release in those that are about a
-release."""
+"""The version: that of the sources in each place that names it, and that of the newest release in
+those that are about a release."""
 
 import hashlib
 import re
 
 import pytest
-from tried import BUILT, ROOT, ended, version_of_tree
+from tried import BUILT, ROOT, ended, needs, version_of_tree
 
 # Each place of the version of the tree, and the line there that has it.
 PLACES = {
@@ -43,10 +43,14 @@ def test_version_of_a_program(kept, kind):
 
 
 def test_digest_of_the_release():
-    entry = re.split(r'(?m)^## ', (ROOT / 'CHANGELOG.md').read_text())
-    [said] = [text for text in entry if text.startswith(f'{newest_release()}, ')]
-    digest = re.search(r'(?m)^Digest of its SHA256SUMS: `([^`]*)`', said)[1]
-    assert hashlib.sha256((ROOT / 'dist' / 'SHA256SUMS').read_bytes()).hexdigest() == digest
+    """CHANGELOG.md has it, or from 0.8.0 on the message of the commit that has the release."""
+    digest = hashlib.sha256((ROOT / 'dist' / 'SHA256SUMS').read_bytes()).hexdigest()
+    needs('git')
+    log = ended(['git', '-C', ROOT, 'log', '-1', '--format=%B', '--', 'dist'])
+    if log.status:
+        pytest.skip('this is no checkout of git')
+    message = log.wrote.decode()
+    assert digest in message + (ROOT / 'CHANGELOG.md').read_text()
 
 
 def test_version_of_the_release():

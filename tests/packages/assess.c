@@ -1,4 +1,4 @@
-/* Prints the fields of an assessment as the lines that docs/FORMATS.md has, without the rows of
+/* Prints the fields of an assessment as the lines that docs/SESSION.md has, without the rows of
  * another picture, or why a file is refused: assess PUZZLE CERTIFICATE|- BACKGROUND|- [ROW,COLUMN
  * ..]. With BIG defined the caller knows a field more than the library. */
 #include "nonobench.h"

@@ -55,8 +55,8 @@ function sessions() {
       const stem = join(root, folder, file.slice(0, -'.session'.length));
       const word = (ending) =>
           (existsSync(stem + ending) ? readFileSync(stem + ending, 'utf8').trim() : undefined);
-      const format = existsSync(`${stem}.ppm`) ? 'ppm' : 'non', background = word('.background'),
-            history = word('.history');
+      const format = existsSync(`${stem}.ppm`) ? 'ppm' : 'non',
+            background = word('.ppm.background'), history = word('.history');
       const picture = readFileSync(`${stem}.${format}`);
       const out = session(
           stem,
@@ -105,7 +105,7 @@ function rows() {
 // early, and with lines.
 function longest() {
   const picture = readFileSync(join(root, 'examples', 'diagonal.ppm')),
-        whole = readFileSync(join(root, 'examples', 'diagonal.cert'), 'latin1');
+        whole = readFileSync(join(root, 'examples', 'diagonal.ppm.cert'), 'latin1');
   const at = whole.indexOf('\n') + 1, many = (line) => line.repeat(12000000 / line.length);
   check(
       'a certificate of 12 MB', picture, whole.slice(0, at) + many('line r 1\n') + whole.slice(at)

@@ -1,6 +1,6 @@
-"""What web/library does with existing files, in a copy of its folder with a toolchain that only notes how it is called: nothing is
-removed before something else is built; what CI left is used without being asked for, unless a source is newer; and it says how long
-it takes."""
+"""What web/library does with existing files, in a copy of its folder with a toolchain that only
+notes how it is called: nothing is removed before something else is built; what CI left is used
+without being asked for, unless a source is newer; and it says how long it takes."""
 
 import os
 import shutil
@@ -28,7 +28,8 @@ def touch(place, hours=0):
 
 
 class Checkout:
-    """Two crates, and a toolchain: `rattle` and `rt lib` note their arguments and end as the file `status` says."""
+    """Two crates, and a toolchain: `rattle` and `rt lib` note their arguments and end as the file
+    `status` says."""
 
     def __init__(self, folder):
         self.folder, self.status = folder, folder / 'status'
@@ -106,8 +107,12 @@ def test_a_newer_source(checkout):
 
 # ---- web/keep
 
-# A compiler that writes its module in two steps and removes it; it ends with the status that it is given.
-COMPILER = 'mkdir "$TMPDIR/a" && printf one >"$TMPDIR/a/module.bc" && sleep 1 && printf two >>"$TMPDIR/a/module.bc" && rm -r "$TMPDIR/a"; exit "$0"'
+# A compiler that writes its module in two steps and removes it; it ends with the status that it is
+# given.
+COMPILER = (
+    'mkdir "$TMPDIR/a" && printf one >"$TMPDIR/a/module.bc" && sleep 1 && printf two'
+    ' >>"$TMPDIR/a/module.bc" && rm -r "$TMPDIR/a"; exit "$0"'
+)
 
 
 @pytest.mark.parametrize(
@@ -115,7 +120,8 @@ COMPILER = 'mkdir "$TMPDIR/a" && printf one >"$TMPDIR/a/module.bc" && sleep 1 &&
     [((COMPILER, '0'), 0, 'onetwo'), ((COMPILER, '3'), 3, None), (('exit 0', '0'), 1, None)],
 )
 def test_a_module_is_kept(command, status, kept, tmp_path):
-    """It is whole although its compiler removes it; without one, or of a compiler that fails, nothing is kept."""
+    """It is whole although its compiler removes it; without one, or of a compiler that fails,
+    nothing is kept."""
     run = subprocess.run(
         [ROOT / 'web' / 'keep', 'kept.bc', 'sh', '-c', *command], cwd=tmp_path, check=False
     )

@@ -19,7 +19,8 @@ GIVEN_LEMMAS = 'nonolemma 1\ngiven 1 1\nline r 1\nline c 1\nline r 2\ndone\n'
 ALL_GIVEN = 'given 1 1\ngiven 1 2\ngiven 2 1\ngiven 2 2\ndone\n'
 MEBIBYTE = 1 << 20
 USAGE = 'usage: example PICTURE CERTIFICATE [ROW,COLUMN ..]'
-# By hand, as in tests/cases/fit.txt: the first has one solution, the second with its given, and the third has a given too many.
+# By hand, as in tests/cases/fit.txt: the first has one solution, the second with its given, and the
+# third has a given too many.
 DIAGONAL = (0, 'unique\nsize 2 2\ncolours 3\ngivens 0\nopen 0\ngrade easy 1 4 3 0 0\nfit')
 GIVEN = (0, 'unique\nsize 2 2\ncolours 2\ngivens 1\nopen 0\ngrade easy 1 4 2 0 0\nfit')
 SPARE = (
@@ -104,15 +105,15 @@ def test_header_in_cpp(name):
 def files():
     """The files by their names that are right, wrong and long."""
     diagonal, cert = (EXAMPLES / 'diagonal.ppm').read_text(), (
-        EXAMPLES / 'diagonal.cert'
+        EXAMPLES / 'diagonal.ppm.cert'
     ).read_text()
     blank = diagonal + ' ' * MEBIBYTE
     most = diagonal + ' ' * (16 * MEBIBYTE - len(diagonal))
     return {
         'diagonal.ppm': diagonal,
-        'diagonal.cert': cert,
+        'diagonal.ppm.cert': cert,
         'given.ppm': (EXAMPLES / 'given.ppm').read_text(),
-        'given.cert': (EXAMPLES / 'given.cert').read_text(),
+        'given.ppm.cert': (EXAMPLES / 'given.ppm.cert').read_text(),
         'cross.ppm': CROSS,
         'cross.cert': f'nonocert 2\n{ALL_GIVEN}',
         'lemmas.cert': f'nonolemma 2\n{ALL_GIVEN}',
@@ -127,14 +128,15 @@ def files():
     }
 
 
-# What the example is called with, its status and what it prints or says. What stands behind a MiB is read too.
+# What the example is called with, its status and what it prints or says. What stands behind a MiB
+# is read too.
 CALLS = {
-    'diagonal.ppm diagonal.cert': DIAGONAL,
-    'given.ppm given.cert 1,1': GIVEN,
-    'given.ppm given.cert': unpublished(2),
+    'diagonal.ppm diagonal.ppm.cert': DIAGONAL,
+    'given.ppm given.ppm.cert 1,1': GIVEN,
+    'given.ppm given.ppm.cert': unpublished(2),
     'cross.ppm cross.cert': unpublished(2),
     'cross.ppm cross.cert 1,2 1,1 2,2': unpublished(4),
-    'given.ppm diagonal.cert': refused('certificate NotDead at line 5'),
+    'given.ppm diagonal.ppm.cert': refused('certificate NotDead at line 5'),
     'diagonal.ppm diagonal.lemmas': DIAGONAL,
     'given.ppm given.lemmas 2,2 1,1': SPARE,
     'given.ppm given.lemmas': unpublished(2),
@@ -142,19 +144,19 @@ CALLS = {
     'cross.ppm lemmas.cert 1,2 1,1 2,2': unpublished(4),
     'given.ppm diagonal.lemmas': refused('certificate NotDead at line 4'),
     'diagonal.ppm cut.cert': refused('certificate NotCert at line 1'),
-    'blank.ppm diagonal.cert': DIAGONAL,
-    'more.ppm diagonal.cert': refused(
+    'blank.ppm diagonal.ppm.cert': DIAGONAL,
+    'more.ppm diagonal.ppm.cert': refused(
         f'ppm TrailingToken at byte {len((EXAMPLES / "diagonal.ppm").read_bytes()) + MEBIBYTE}'
     ),
     'diagonal.ppm more.cert': refused('certificate BadLine at line 10'),
-    'most.ppm diagonal.cert': DIAGONAL,
-    'longer.ppm diagonal.cert': refused('input too long'),
+    'most.ppm diagonal.ppm.cert': DIAGONAL,
+    'longer.ppm diagonal.ppm.cert': refused('input too long'),
     'diagonal.ppm longer.ppm': refused('input too long'),
-    'none.ppm diagonal.cert': (3, 'example: none.ppm: No such file or directory'),
+    'none.ppm diagonal.ppm.cert': (3, 'example: none.ppm: No such file or directory'),
     'diagonal.ppm none.cert': (3, 'example: none.cert: No such file or directory'),
-    'hostile.so diagonal.cert': (3, 'example: hostile.so: Is a directory'),
+    'hostile.so diagonal.ppm.cert': (3, 'example: hostile.so: Is a directory'),
     **{
-        f'given.ppm given.cert {place}': (2, USAGE)
+        f'given.ppm given.ppm.cert {place}': (2, USAGE)
         for place in (
             '1',
             '1,',
@@ -191,7 +193,7 @@ def test_example(archive, tmp_path):
         said = re.sub(r'\n$', '', (run.wrote + run.said).decode())
         assert (run.status, said) == (status, line), words
     with open('/dev/full', 'wb') as full:
-        words = [example, 'diagonal.ppm', 'diagonal.cert']
+        words = [example, 'diagonal.ppm', 'diagonal.ppm.cert']
         assert (
             subprocess.run(
                 words, cwd=here, stdout=full, stderr=subprocess.PIPE, check=False

@@ -1,8 +1,8 @@
-"""One table, many hosts: what is said of a puzzle that is to be published stands in tests/cases/fit.txt, worked out by hand, and each
-host answers it. The hosts in JavaScript read the same table in their own tests.
+"""One table, many hosts: what is said of a puzzle that is to be published stands in
+tests/cases/fit.txt, worked out by hand, and each host answers it. The hosts in JavaScript read the
+same table in their own tests.
 """
 
-import importlib.util
 import io
 import json
 import os
@@ -56,16 +56,16 @@ class Case:
         return b''.join(b'given %d %d\n' % place for place in self.givens)
 
     def lay(self, folder):
-        """The files of the puzzle, as an audit and a check of a site find them."""
+        """The files of the puzzle, as an audit finds them."""
         parts = {
-            'ppm': self.picture,
-            'background': (self.background or '').encode(),
-            'givens': self.file,
-            'cert': self.certificate,
+            '': self.picture,
+            '.background': (self.background or '').encode(),
+            '.givens': self.file,
+            '.cert': self.certificate,
         }
         for ending, data in parts.items():
             if data:
-                (folder / f'{self.name}.{ending}').write_bytes(data)
+                (folder / f'{self.name}.ppm{ending}').write_bytes(data)
 
 
 def case_of(block):
@@ -141,7 +141,8 @@ def test_python(library, host):
 
 
 def test_any_given(library):
-    """A certificate's givens are those that are published, whichever they are; and a fault of the certificate is told as its own."""
+    """A certificate's givens are those that are published, whichever they are; and a fault of the
+    certificate is told as its own."""
     import nonobench
 
     for case in BY_CERTIFICATE:
@@ -165,7 +166,8 @@ def test_any_given(library):
 
 
 def test_an_allowance(library):
-    """Under one a puzzle may be undecided, and is not fit then; and whether a given is needed may be left open."""
+    """Under one a puzzle may be undecided, and is not fit then; and whether a given is needed may
+    be left open."""
     import nonobench
 
     picture = nonobench.picture_of(2, 2, [(0, 0, 0), (255, 255, 255), (255, 255, 255), (0, 0, 0)])
@@ -280,7 +282,7 @@ def test_c(library, words, tmp_path):
     for case in TABLE:
         case.lay(tmp_path)
         file = tmp_path / case.name
-        cert = '-' if case.certificate is None else file.with_suffix('.cert')
+        cert = '-' if case.certificate is None else file.with_suffix('.ppm.cert')
         run = ended(
             [
                 program,
@@ -305,8 +307,8 @@ def test_program(kept, tmp_path):
         file = tmp_path / case.name
         beside = {
             '--background': case.background,
-            '--givens': case.givens and file.with_suffix('.givens'),
-            '--certificate': case.certificate and file.with_suffix('.cert'),
+            '--givens': case.givens and file.with_suffix('.ppm.givens'),
+            '--certificate': case.certificate and file.with_suffix('.ppm.cert'),
         }
         words = [word for option, value in beside.items() if value for word in (option, value)]
         run = ended([kept.program('nonobench'), 'assess', file.with_suffix('.ppm'), *words])
@@ -335,7 +337,7 @@ def audited(folder, *words):
         env=ENV,
     )
     rows = map(json.loads, (folder / 'rows').read_text().splitlines())
-    return {row['file'].removeprefix('site/').removesuffix('.ppm'): row for row in rows}, run.status
+    return {row['file'].removesuffix('.ppm'): row for row in rows}, run.status
 
 
 def row_lines(row):
@@ -397,63 +399,43 @@ def test_audit_allows(library, kind, tmp_path):
     assert [audited(tmp_path, *words)[1] for words in ((), ('--allow-flaw', kind))] == [1, 0]
 
 
-def checked(folder, *words):
-    """The lines of nonobench-check-site, and its status."""
-    run = ended(
-        [sys.executable, '-m', 'nonobench.check_site', folder, '--quiet', *BOUNDS, *words],
-        cwd=folder,
-        env=ENV,
-    )
-    return dict(line.split('.cert: ') for line in run.wrote.decode().splitlines()), run.status
-
-
-def test_check_site(library, tmp_path):
+def test_certified(library, tmp_path):
+    """Where a certificate counts alone, one that is refused is an error."""
+    site = tmp_path / 'site'
+    site.mkdir()
     for case in BY_CERTIFICATE:
-        case.lay(tmp_path)
-    wanted = {
-        case.name: case.refusal or '; '.join(f'flaw {flaw}' for flaw in case.flaws)
-        for case in BY_CERTIFICATE
-        if not case.is_fit
-    }
-    found, status = checked(tmp_path)
-    assert ({name.rpartition('/')[2]: why for name, why in found.items()}, status) == (wanted, 1)
+        case.lay(site)
+    rows, status = audited(tmp_path, '--certified')
+    assert status == 1
     for case in BY_CERTIFICATE:
-        if case.refusal:
-            (tmp_path / f'{case.name}.cert').unlink()
-    assert checked(tmp_path, '--allow-flaw', 'any') == ({}, 0)
-    assert checked(
-        tmp_path,
-        *(
-            word
-            for kind in ('blank', 'background', 'given', 'alike')
-            for word in ('--allow-flaw', kind)
-        ),
-    ) == ({}, 0)
-    left, status = checked(tmp_path, '--allow-flaw', 'given', '--allow-flaw', 'alike')
-    assert (status, {why for why in left.values()}) == (1, {'flaw background', 'flaw blank'})
+        row = rows.pop(case.name)
+        assert row['fit'] == case.is_fit, case.name
+        if case.refusal is None:
+            assert row.get('flaws', []) == case.flaws, case.name
+        else:
+            assert row['error'].startswith(f'its certificate is refused: {case.refusal}')
+    assert rows == {}
 
 
-def test_site(library, tmp_path):
-    """The site of the example publishes the cells that a certificate names, and its pictures are on white."""
+def test_service(library):
+    """It searches where there is no certificate."""
     pytest.importorskip('flask', reason='there is no Flask')
-    spec = importlib.util.spec_from_file_location('app', ROOT / 'examples' / 'site' / 'app.py')
-    app = importlib.util.module_from_spec(spec)
-    spec.loader.exec_module(app)
-    tried = 0
-    for case in BY_CERTIFICATE:
-        is_published = case.refusal != 'certificate UnpublishedGiven at line 2' and len(
-            case.givens
-        ) == case.certificate.count(b'given ')
-        if case.background is not None or not is_published:
-            continue
-        client = app.create_app(
-            DATABASE=str(tmp_path / f'{case.name}.sqlite'), SECONDS=300.0
-        ).test_client()
-        files = {
-            'picture': (io.BytesIO(case.picture), 'a'),
-            'certificate': (io.BytesIO(case.certificate), 'b'),
+    from nonobench.service import POOL, create_app
+
+    app = create_app(PROCESSES=1, SECONDS=300)
+    client = app.test_client()
+    for case in TABLE:
+        data = {
+            'puzzle': (io.BytesIO(case.picture), 'a.ppm'),
+            'certificate': (case.certificate or b'').decode(),
+            'givens': case.file.decode(),
+            'background': case.background or '',
         }
-        answer = client.post('/puzzles', data=files, content_type='multipart/form-data')
-        assert answer.status_code == (303 if case.is_fit else 422), (case.name, answer.data)
-        tried += 1
-    assert tried >= 5
+        answer = client.post('/assess' if case.certificate is None else '/check', data=data)
+        row = answer.get_json()
+        assert row['fit'] == case.is_fit, (case.name, row)
+        if case.refusal is None:
+            assert row.get('flaws', []) == case.flaws, (case.name, row)
+        else:
+            assert case.refusal in row['error'], (case.name, row)
+    app.extensions[POOL].shutdown()  # and its process

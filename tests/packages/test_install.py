@@ -1,15 +1,18 @@
-"""Tests of both scripts that install: python3 -m pytest tests/packages/test_install.py. What they install stands in for a program."""
+"""Tests of both scripts that install: python3 -m pytest tests/packages/test_install.py. What they
+install stands in for a program."""
 
+import hashlib
 import os
+import platform
 import shutil
 import subprocess
-from pathlib import Path
+import tarfile
 
 import pytest
+from tried import ROOT, needs
 
-ROOT = Path(__file__).resolve().parents[2]
 PROGRAM = '#!/bin/sh\necho nonobench 9.9.9\n'
-OURS = ['share/nonobench/files', 'share/nonobench/folders', 'share/nonobench/install']
+NAME = f'nonobench-9.9.9-linux-{platform.machine()}'
 
 
 def write(path, text, mode=0o644):
@@ -18,22 +21,8 @@ def write(path, text, mode=0o644):
     path.chmod(mode)
 
 
-def run(script, *words, cwd='/', home='/nonexistent', **others):
-    """The status, and what was printed and said."""
-    env = {'PATH': '/usr/bin:/bin', 'HOME': str(home), **others}
-    ended = subprocess.run(
-        [str(script), *map(str, words)],
-        cwd=cwd,
-        env=env,
-        capture_output=True,
-        text=True,
-        check=False,
-    )
-    return ended.returncode, ended.stdout, ended.stderr
-
-
 def files(folder):
-    return sorted(str(file.relative_to(folder)) for file in folder.rglob('*') if file.is_file())
+    return sorted(str(one.relative_to(folder)) for one in folder.rglob('*') if not one.is_dir())
 
 
 @pytest.fixture
@@ -41,15 +30,126 @@ def archive(tmp_path):
     """A folder as an archive for Linux has it."""
     folder = tmp_path / 'an archive'
     write(folder / 'bin/nonobench', PROGRAM, 0o755)
+    write(folder / 'bin/nonobench-old', PROGRAM, 0o755)
     write(folder / 'lib/nonobench/nonobench/__init__.py', '')
-    write(folder / 'share/doc/nonobench/examples/one.ppm', 'P3')
+    for name in (
+        'man/man1/nonobench.1',
+        'bash-completion/completions/nonobench',
+        'zsh/site-functions/_nonobench',
+        'doc/nonobench/README.md',
+    ):
+        write(folder / 'share' / name, 'x')
     shutil.copy(ROOT / 'packages/linux/install', folder)
     return folder
 
 
 @pytest.fixture
-def checkout(tmp_path):
-    """A checkout with a program that was built."""
+def home(tmp_path):
+    folder = tmp_path / 'h o m e'
+    write(folder / '.local/bin/mine', 'x')
+    return folder
+
+
+@pytest.fixture(params=['dash', 'bash', 'busybox'])
+def shell(request, tmp_path):
+    """The words that begin a shell, and the search path of its tools."""
+    needs(request.param)
+    if request.param != 'busybox':
+        return [request.param], '/usr/bin:/bin'
+    tools = tmp_path / 'tools'
+    tools.mkdir()
+    subprocess.run(['busybox', '--install', '-s', tools], check=True)
+    return [tools / 'sh'], str(tools)
+
+
+def run(words, home, path='/usr/bin:/bin', cwd='/', **others):
+    """The status, and what was printed and said."""
+    ended = subprocess.run(
+        [str(word) for word in words],
+        cwd=cwd,
+        env={'PATH': path, 'HOME': str(home), **others},
+        capture_output=True,
+        text=True,
+        check=False,
+        umask=0o077,
+    )
+    return ended.returncode, ended.stdout, ended.stderr
+
+
+LINKS = [
+    'bin/nonobench',
+    'share/bash-completion/completions/nonobench',
+    'share/man/man1/nonobench.1',
+    'share/zsh/site-functions/_nonobench',
+]
+
+
+def test_installed_updated_and_removed(archive, home, shell, tmp_path):
+    words, path = shell
+    local, lib = home / '.local', home / '.local/lib/nonobench'
+    subprocess.run(['chmod', '-R', 'go=', archive], check=True)
+    assert run([*words, archive / 'install'], home, path)[0] == 0
+    (archive / 'bin/nonobench-old').unlink()
+    said = f'nonobench 9.9.9 is in {lib}, and its commands are in {local}/bin\n'
+    assert run([*words, archive / 'install'], home, path) == (0, said, '')
+    assert files(lib) == files(archive)
+    assert files(local) == sorted(
+        ['bin/mine', *LINKS, *(f'lib/nonobench/{name}' for name in files(archive))]
+    )
+    assert run([local / 'bin/nonobench'], home) == (0, 'nonobench 9.9.9\n', '')
+    for one in lib.rglob('*'):  # others may use it, whatever the mask of who unpacked
+        mode = 0o755 if one.is_dir() or one.name == 'install' or 'bin' in one.parts[-2:] else 0o644
+        assert one.stat().st_mode & 0o777 == mode, one
+    removed = (0, f'removed nonobench from {local}\n', '')
+    assert run([*words, lib / 'install', '--uninstall'], home, path) == removed
+    assert files(home) == ['.local/bin/mine'] and not lib.exists()
+    status, out, err = run([*words, archive / 'install', '--uninstall'], home, path)
+    assert (status, out) == (1, '') and err.startswith('install: nothing to remove: there is no ')
+
+
+def test_another_folder_from_where_we_stand(archive, home, tmp_path):
+    words = [archive / 'install', '--prefix', 'here']
+    assert run(words, home, cwd=tmp_path, CDPATH=f'.:{tmp_path}')[0] == 0
+    assert run([tmp_path / 'here/bin/nonobench'], home) == (0, 'nonobench 9.9.9\n', '')
+    assert run([*words, '--uninstall'], home, cwd=tmp_path)[0] == 0
+    assert files(tmp_path / 'here') == [] and files(home) == ['.local/bin/mine']
+
+
+def test_refused(archive, home):
+    """What an older version installed stays, and so does what is there if the program does not
+    run."""
+    write(home / '.local/lib/nonobench/nonobench/__init__.py', '')
+    there = files(home)
+    for words in ([], ['--uninstall']):
+        status, out, err = run([archive / 'install', *words], home)
+        assert (status, out) == (1, '') and '/share/nonobench/install --uninstall' in err
+    shutil.rmtree(home / '.local/lib/nonobench')
+    write(archive / 'bin/nonobench', '#!/nowhere\n', 0o755)
+    status, out, err = run([archive / 'install'], home)
+    assert (status, out) == (1, '') and 'the program does not run here' in err
+    assert there != files(home) == ['.local/bin/mine']
+
+
+def test_words(archive, home):
+    usage = 'usage: ./install [--prefix DIR] [--uninstall]\n'
+    for words, wanted in (
+        (['--help'], 0),
+        (['-h'], 0),
+        (['--prefix'], 2),
+        (['--prefix', ''], 2),
+        (['--other'], 2),
+        (['folder'], 2),
+        (['--uninstall', 'x'], 2),
+    ):
+        status, out, err = run(['dash', archive / 'install', *words], home)
+        assert status == wanted, words
+        assert (out if wanted == 0 else err).startswith(usage) or words[0] == '--prefix', words
+    assert files(home) == ['.local/bin/mine']
+
+
+@pytest.fixture
+def checkout(archive, tmp_path):
+    """A checkout with a release of the archive, and its sum."""
     folder = tmp_path / 'checkout'
     for name in (
         'install',
@@ -60,274 +160,45 @@ def checkout(tmp_path):
     ):
         (folder / name).parent.mkdir(parents=True, exist_ok=True)
         shutil.copy(ROOT / name, folder / name)
-    write(folder / 'crates.txt', '')
-    write(folder / 'crates/nonobench/out/nonobench', PROGRAM, 0o755)
+    packed = folder / 'dist' / f'{NAME}.tar.gz'
+    packed.parent.mkdir()
+    with tarfile.open(packed, 'w:gz') as tar:
+        tar.add(archive, NAME)
+    digest = hashlib.sha256(packed.read_bytes()).hexdigest()
+    write(folder / 'dist/SHA256SUMS', f'{digest}  {packed.name}\n')
     return folder
 
 
-def test_installed_and_removed(archive, tmp_path):
-    prefix = tmp_path / 'p r e'
-    write(prefix / 'bin/mine', 'x')
-    (prefix / 'share/empty').mkdir(parents=True)
-    status, out, _ = run(archive / 'install', '--prefix', prefix)
-    wanted = [name for name in files(archive) if name != 'install']
-    assert (status, out.splitlines()[-1]) == (0, 'nonobench 9.9.9')
-    assert files(prefix) == sorted([*wanted, *OURS, 'bin/mine'])
-    assert (prefix / OURS[0]).read_text().splitlines() == sorted([*wanted, *OURS])
-    assert os.access(prefix / 'bin/nonobench', os.X_OK)
-    write(prefix / 'lib/nonobench/nonobench/__pycache__/__init__.pyc', '')
-    assert run(archive / 'install', '--uninstall', '--prefix', prefix)[0] == 0
-    assert (files(prefix), sorted(os.listdir(prefix)), os.listdir(prefix / 'share')) == (
-        ['bin/mine'],
-        ['bin', 'share'],
-        ['empty'],
+def test_a_release_in_a_checkout(checkout, home):
+    assert run([checkout / 'install'], home)[0] == 0
+    assert run([home / '.local/bin/nonobench-old'], home) == (0, 'nonobench 9.9.9\n', '')
+    assert run([checkout / 'install', '--uninstall'], home)[0] == 0
+    with (checkout / 'dist' / f'{NAME}.tar.gz').open('ab') as file:
+        file.write(b'x')
+    status, _, err = run([checkout / 'install'], home)
+    assert (status, err.splitlines()[-1]) == (
+        1,
+        f'install: dist/{NAME}.tar.gz is not what dist/SHA256SUMS says',
     )
+    assert files(home) == ['.local/bin/mine']
 
 
-@pytest.mark.parametrize('folder', ['an archive', 'checkout'])
-def test_a_search_path_of_folders(archive, checkout, folder, tmp_path):
-    status, out, _ = run(
-        f'{folder}/install', '--prefix', tmp_path / 'prefix', cwd=tmp_path, CDPATH=f'.:{tmp_path}'
-    )
-    assert (status, out.splitlines()[-1]) == (0, 'nonobench 9.9.9')
-
-
-@pytest.mark.parametrize('folder', ['an archive', 'checkout'])
-def test_others_may_use_what_is_installed(archive, checkout, folder, tmp_path):
-    """Whatever the mask of who installs, and of who unpacked."""
-    subprocess.run(['chmod', '-R', 'go=', tmp_path / folder], check=True)
-    prefix = tmp_path / 'pre' / 'fix'
-    words = [tmp_path / folder / 'install', '--prefix', prefix]
-    subprocess.run(
-        words, env={'PATH': '/usr/bin:/bin'}, capture_output=True, check=True, umask=0o077
-    )
-    programs = {prefix / 'bin/nonobench', prefix / OURS[2]}
-    for path in (prefix.parent, prefix, *prefix.rglob('*')):
-        assert path.stat().st_mode & 0o777 == (
-            0o755 if path.is_dir() or path in programs else 0o644
-        ), path
-
-
-def test_removed_by_the_copy_that_was_installed(archive, tmp_path):
-    prefix = tmp_path / 'prefix'
-    assert run(archive / 'install', f'--prefix={prefix}')[0] == 0
-    shutil.rmtree(archive)
-    copy = prefix / 'share/nonobench/install'
-    status, _, err = run(copy)
-    assert (status, err) == (1, 'install: this copy only removes what was installed: --uninstall\n')
-    assert run(copy, '--uninstall') == (0, f'removed nonobench from {prefix}\n', '')
-    assert files(tmp_path) == []
-
-
-def test_what_an_earlier_version_had_goes(archive, tmp_path):
-    prefix = tmp_path / 'prefix'
-    write(archive / 'share/doc/nonobench/old/only.txt', 'x')
-    assert run(archive / 'install', '--prefix', prefix)[0] == 0
-    shutil.rmtree(archive / 'share/doc/nonobench/old')
-    write(archive / 'bin/nonobench-new', PROGRAM, 0o755)
-    assert run(archive / 'install', '--prefix', prefix)[0] == 0
-    assert files(prefix) == sorted([*(name for name in files(archive) if name != 'install'), *OURS])
-    assert not (prefix / 'share/doc/nonobench/old').exists()
-
-
-def test_what_was_interrupted_is_removed_too(archive, tmp_path):
-    prefix = tmp_path / 'prefix'
-    # A file is in the way of a folder.
-    write(prefix / 'share/doc', 'mine')
-    assert run(archive / 'install', '--prefix', prefix)[0] != 0
-    assert (prefix / 'bin/nonobench').exists()
-    assert run(archive / 'install', '--uninstall', '--prefix', prefix)[0] == 0
-    assert files(prefix) == ['share/doc']
-
-
-@pytest.mark.parametrize('is_update', [False, True])
-def test_what_cannot_be_removed_is_told_and_stays_in_the_list(archive, is_update, tmp_path):
-    prefix, words = tmp_path / 'prefix', ['--prefix', tmp_path / 'prefix'] + ['--uninstall'] * (
-        not is_update
-    )
-    write(archive / 'bin/old', 'x')
-    assert run(archive / 'install', '--prefix', prefix)[0] == 0
-    (archive / 'bin/old').unlink()
-    (prefix / 'bin/old').unlink()
-    write(prefix / 'bin/old/in the way', 'x')
-    status, out, err = run(archive / 'install', *words)
-    assert (status, err.splitlines()[-1]) == (1, f'install: not all could be removed from {prefix}')
-    assert (
-        'bin/old' in (prefix / OURS[0]).read_text().splitlines() and 'removed nonobench' not in out
-    )
-    assert (prefix / 'bin/nonobench').exists() == is_update
-    shutil.rmtree(prefix / 'bin/old')
-    assert run(prefix / OURS[2], '--uninstall')[0] == 0
-    assert not (prefix / 'bin').exists() and files(prefix) == []
-
-
-def tool(tmp_path, name, text):
-    """A search path on which a tool comes first that does something else."""
-    write(tmp_path / 'tools' / name, f'#!/bin/sh\n{text}\n', 0o755)
-    return f'{tmp_path}/tools:/usr/bin:/bin'
-
-
-def test_what_cannot_be_listed_stays(archive, tmp_path):
-    run(archive / 'install', '--prefix', tmp_path / 'to')
-    there = files(tmp_path / 'to')
-    status, out, _ = run(
-        tmp_path / 'to/share/nonobench/install',
-        '--uninstall',
-        PATH=tool(tmp_path, 'grep', 'exit 2'),
-    )
-    assert (status != 0, out, files(tmp_path / 'to')) == (True, '', there)
-
-
-def test_no_temporary_folder_stays_after_a_signal(archive, tmp_path):
-    (tmp_path / 'temporary').mkdir()
-    path = tool(tmp_path, 'cp', 'kill -TERM $PPID')
-    status, _, _ = run(
-        archive / 'install',
-        '--prefix',
-        tmp_path / 'to',
-        PATH=path,
-        TMPDIR=str(tmp_path / 'temporary'),
-    )
-    assert (status, os.listdir(tmp_path / 'temporary')) == (130, [])
-
-
-def test_halves_go_too_and_what_is_not_ours_stays(archive, tmp_path):
-    prefix, mine = tmp_path / 'prefix', 'lib/nonobench/mine/__pycache__/keep.txt'
-    assert run(archive / 'install', '--prefix', prefix)[0] == 0
-    write(prefix / 'bin/nonobench.new', 'half')
-    write(prefix / mine, 'x')
-    assert run(archive / 'install', '--prefix', prefix, '--uninstall')[0] == 0
-    assert files(prefix) == [mine]
-
-
-@pytest.mark.parametrize('name', ['bin/nonobench', OURS[0]])
-def test_halves_are_written_through_no_link_and_into_no_folder(archive, name, tmp_path):
-    prefix, others = tmp_path / 'prefix', tmp_path / 'others'
-    half = prefix / f'{name}.new'
-    write(others, 'x')
-    half.parent.mkdir(parents=True)
-    half.symlink_to(others)
-    (tmp_path / 'temporary').mkdir()
-    assert run(archive / 'install', '--prefix', prefix, cwd=tmp_path, TMPDIR='temporary')[0] == 0
-    assert (
-        others.read_text(),
-        half.exists(),
-        (prefix / name).is_symlink(),
-        os.listdir(tmp_path / 'temporary'),
-    ) == ('x', False, False, [])
-    half.mkdir()
-    status, out, err = run(archive / 'install', '--prefix', prefix)
-    assert (
-        status,
-        str(half) in err,
-        f'installed {prefix / name}\n' in out,
-        (prefix / name).is_file(),
-    ) == (1, True, False, True)
-
-
-def test_folders_that_were_there_stay(archive, tmp_path):
-    prefix = tmp_path / 'prefix'
-    for folder in ('bin', 'share/man/man1'):
-        (prefix / folder).mkdir(parents=True)
-    write(archive / 'share/man/man1/nonobench.1', '')
-    write(archive / 'lib/old/one.txt', '')
-    assert run(archive / 'install', '--prefix', prefix)[0] == 0
-    shutil.rmtree(archive / 'lib/old')
-    assert run(archive / 'install', '--prefix', prefix)[0] == 0
-    assert not (prefix / 'lib/old').exists()
-    assert run(archive / 'install', '--prefix', prefix, '--uninstall')[0] == 0
-    assert sorted(str(path.relative_to(prefix)) for path in prefix.rglob('*')) == [
-        'bin',
-        'share',
-        'share/man',
-        'share/man/man1',
-    ]
-    # An earlier version did not say which folders it made.
-    assert run(archive / 'install', '--prefix', prefix)[0] == 0
-    (prefix / OURS[1]).unlink()
-    assert run(archive / 'install', '--prefix', prefix, '--uninstall')[0] == 0
-    assert list(prefix.iterdir()) == []
-
-
-@pytest.mark.parametrize('name', ['bin/nonobench', OURS[0]])
-def test_a_folder_where_a_file_goes_is_refused(archive, name, tmp_path):
-    prefix = tmp_path / 'prefix'
-    write(prefix / name / 'mine', 'x')
-    assert run(archive / 'install', '--prefix', prefix) == (
+def test_what_a_toolchain_proves_in_a_checkout(checkout, home, tmp_path):
+    words = [checkout / 'install', '--proved']
+    assert run(words, home) == (
         1,
         '',
-        f'install: {prefix / name} is a folder\n',
+        'install: there is no toolchain to prove with: rt is not on the PATH\n',
     )
-    assert files(tmp_path / 'prefix') == [f'{name}/mine']
-
-
-def test_the_path_is_told_where_it_has_another(archive, tmp_path):
-    prefix, link = tmp_path / 'prefix', tmp_path / 'link'
-    link.symlink_to(prefix)
-    write(tmp_path / 'other/nonobench', PROGRAM, 0o755)
-    for at in (prefix, f'{prefix}/', link, './link', 'link/'):
-        for path, told in (
-            (f'{prefix}/bin', False),
-            (f'{link}/bin', False),
-            (f'{tmp_path}/other:{prefix}/bin', True),
-            ('/sbin', True),
-        ):
-            status, _, err = run(
-                archive / 'install', '--prefix', at, cwd=tmp_path, PATH=f'{path}:/usr/bin:/bin'
-            )
-            assert (status, 'bin is not on the PATH' in err) == (0, told), (at, path)
-
-
-def test_below_the_home_and_from_where_we_stand(archive, tmp_path):
-    assert run(archive / 'install', home=tmp_path / 'home')[0] == 0
-    assert (tmp_path / 'home/.local/bin/nonobench').exists()
-    assert run(archive / 'install', '--prefix', 'here', cwd=tmp_path)[0] == 0
-    assert (tmp_path / 'here/bin/nonobench').exists()
-    assert run(archive / 'install', '--uninstall', home=tmp_path / 'home')[0] == 0
-    assert files(tmp_path / 'home') == []
-
-
-def test_a_checkout(checkout, tmp_path):
-    prefix = tmp_path / 'prefix'
-    write(prefix / 'bin/mine', 'x')
-    status, out, _ = run(checkout / 'install', '--prefix', prefix)
-    assert (status, out.splitlines()[-1]) == (0, 'nonobench 9.9.9')
-    assert files(prefix) == sorted(
-        [
-            'bin/mine',
-            'bin/nonobench',
-            'share/bash-completion/completions/nonobench',
-            'share/man/man1/nonobench.1',
-            'share/zsh/site-functions/_nonobench',
-            *OURS,
-        ]
+    built = checkout / 'crates/nonobench/out/nonobench'
+    write(checkout / 'examples/heart.ppm', 'P3')
+    built.parent.parent.mkdir(parents=True)
+    write(
+        tmp_path / 'toolchain/rt',
+        f'#!/bin/sh\n[ "$*" = run ] && mkdir -p out && cp "{tmp_path}/program" out/nonobench\n',
+        0o755,
     )
-    assert run(checkout / 'install', '--uninstall', '--prefix', prefix)[0] == 0
-    assert files(prefix) == ['bin/mine']
-
-
-@pytest.mark.parametrize('which', ['archive', 'checkout'])
-def test_words(which, request, tmp_path):
-    script = request.getfixturevalue(which) / 'install'
-    for word in ('--help', '-h'):
-        status, out, err = run(script, word, cwd=tmp_path)
-        assert (
-            (status, err) == (0, '')
-            and out.startswith('usage: ./install ')
-            and '--uninstall' in out
-        )
-    for words in (
-        ['--prefix'],
-        ['--prefix', ''],
-        ['--prefix', '-x'],
-        ['--prefix=-x'],
-        ['--prefix='],
-        ['--other'],
-        ['folder'],
-        ['--prefix', '--uninstall'],
-    ):
-        status, out, err = run(script, *words, cwd=tmp_path)
-        assert (status, out) == (2, '') and err.startswith('usage: ./install '), words
-    status, out, err = run(script, '--uninstall', '--prefix', tmp_path / 'none')
-    assert (status, out) == (1, '') and err.startswith('install: nothing to remove: there is no ')
-    assert not (tmp_path / '-x').exists() and not (tmp_path / 'none').exists()
+    write(tmp_path / 'program', PROGRAM, 0o755)
+    assert run(words, home, f'{tmp_path}/toolchain:/usr/bin:/bin')[0] == 0
+    assert os.access(home / '.local/bin/nonobench', os.X_OK)
+    assert files(home / '.local/lib/nonobench') == sorted([*LINKS, 'install'])

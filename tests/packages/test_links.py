@@ -9,13 +9,13 @@ PAGE = """# A page
 ![A picture](gone.png)
 
 [F](gone.md#x), [`G` and H](../outside.md), [I](other.md#none), [J](#none) and [K](inner) are texts.
-"""
+"""  # noqa: E501
 MENDED = """# A page
 
 [A](other.md), [B](other.md#its-heading), [C](#a-page), [D](https://example.org/x.md) and [`E`](inner/third.md) stay.
 
 F, `G` and H, I, J and K are texts.
-"""
+"""  # noqa: E501
 THIRD = '[A](../page.md#a-page)\n'
 
 

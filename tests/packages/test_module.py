@@ -1,5 +1,5 @@
-"""The module for browsers: built twice to the same bytes, its functions beside what calls them, and what it answers beside the
-program."""
+"""The module for browsers: built twice to the same bytes, its functions beside what calls them, and
+what it answers beside the program."""
 
 import functools
 import http.server
@@ -74,7 +74,8 @@ def test_checker_in_node(request, module):
 
 @pytest.mark.all
 def test_badge_in_a_browser(module, tmp_path):
-    """examples/badge.html on a server: of its three puzzles the last names a given that is not published."""
+    """examples/badge.html on a server: of its three puzzles the last names a given that is not
+    published."""
     for file in (
         EXAMPLES / 'badge.html',
         *EXAMPLES.glob('*.ppm'),
@@ -116,8 +117,9 @@ def test_heap(tmp_path):
 
 
 def test_rates_beside_those_of_the_library(module, library, tmp_path, monkeypatch):
-    """The module checks and judges at least 0.4 times as fast as the library does for Python: 0.8 times on a quiet machine. That is
-    the best of some turns, by the processor's time, since a busy machine slows both."""
+    """The module checks and judges at least 0.4 times as fast as the library does for Python: 0.8
+    times on a quiet machine. That is the best of some turns, by the processor's time, since a busy
+    machine slows both."""
     needs('node')
     import rates
 

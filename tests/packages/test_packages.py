@@ -1,6 +1,6 @@
-"""The packages of a release: made twice to the same bytes, and each tried with its own command in a clean folder, with no toolchain
-on the PATH and, if unshare is allowed, no network. Each is asked for pairs that must be accepted, that must be refused, and whose
-givens are all cells.
+"""The packages of a release: made twice to the same bytes, and each tried with its own command in a
+clean folder, with no toolchain on the PATH and, if unshare is allowed, no network. Each is asked
+for pairs that must be accepted, that must be refused, and whose givens are all cells.
 
 If CHANGELOG.md says that the version is released, dist/ must have the bytes of what was made.
 """
@@ -43,13 +43,13 @@ def version(made):
 
 @pytest.fixture(scope='session')
 def pairs(kept, tmp_path_factory):
-    """Pictures with certificates: a good one, that of another picture, and one whose givens are all cells; and why the second is
-    refused."""
+    """Pictures with certificates: a good one, that of another picture, and one whose givens are all
+    cells; and why the second is refused."""
     folder = tmp_path_factory.mktemp('pairs')
     for name, picture in (('good', 'diagonal'), ('bad', 'heart'), ('all', 'given')):
         shutil.copy(EXAMPLES / f'{picture}.ppm', folder / f'{name}.ppm')
     for name in ('good', 'bad'):
-        shutil.copy(EXAMPLES / 'diagonal.cert', folder / f'{name}.cert')
+        shutil.copy(EXAMPLES / 'diagonal.ppm.cert', folder / f'{name}.cert')
     (folder / 'all.cert').write_text(
         'nonocert 2\ngiven 1 1\ngiven 1 2\ngiven 2 1\ngiven 2 2\ndone\n'
     )
@@ -71,7 +71,8 @@ ALL_GIVEN = 'unique\nsize 2 2\ncolours 2\ngivens 4\nopen 0\ngrade easy 0 0 0 0 0
 
 
 def try_program(words, pairs, version):
-    """Tries a program on the pairs. Of the one that is refused the native program says which line is wrong."""
+    """Tries a program on the pairs. Of the one that is refused the native program says which line
+    is wrong."""
     files, why = pairs
     prints(0, f'nonobench {version}', [*words, '--version'])
     prints(0, 'certificate accepted', [*words, 'check', *files['good']])
@@ -82,7 +83,8 @@ def try_program(words, pairs, version):
 def try_call(
     words, pairs, good='certificate accepted', all_given='certificate accepted, givens 4', **more
 ):
-    """Tries a call on the pairs: one whose givens are all cells is refused unless they are published."""
+    """Tries a call on the pairs: one whose givens are all cells is refused unless they are
+    published."""
     files, why = pairs
     prints(0, good, [*words, *files['good']], **more)
     prints(1, f'refused: {why.removeprefix("nonobench: ")}', [*words, *files['bad']], **more)
@@ -96,9 +98,10 @@ def blocks_of(page):
 
 
 def try_scripts(place):
-    """Tries what checks a site on the examples that were installed, and compares the recipes with those of this tree."""
+    """Tries the audit on an example that was installed, and compares the recipes with those of this
+    tree."""
     shown = place / 'share' / 'doc' / 'nonobench'
-    run = clean([place / 'bin' / 'nonobench-check-site', shown / 'examples'])
+    run = clean([place / 'bin' / 'nonobench-audit', shown / 'examples' / 'heart.ppm'])
     assert run.status == 0, run
     assert blocks_of(shown / 'docs' / 'RECIPES.md') == blocks_of(ROOT / 'docs' / 'RECIPES.md')
 
@@ -121,7 +124,8 @@ def test_sums(made):
 
 
 def test_sources(made, kept):
-    """The engine's files with what git calls their contents; of an older release those that it was made of."""
+    """The engine's files with what git calls their contents; of an older release those that it was
+    made of."""
     listed = dict(reversed(line.split()) for line in (made / 'SOURCES').read_text().splitlines())
     assert VERSION in listed
     if not kept.released:
@@ -288,7 +292,8 @@ def test_page_has_the_module_of_the_package(made, npm, tmp_path):
 
 
 def test_page_begins_in_a_browser(made, tmp_path):
-    """The text alone stands in the page's script too: the button is there once the script has run."""
+    """The text alone stands in the page's script too: the button is there once the script has
+    run."""
     assert 'id="new-go">Start painting<' in dumped(f'file://{made}/nonobench.html', tmp_path, clean)
 
 
@@ -318,49 +323,18 @@ def test_library_for_c(installed, pairs, version, tmp_path):
         try_call([tmp_path / name], pairs, DIAGONAL, ALL_GIVEN)
 
 
-def test_archive_removed(made, tmp_path):
-    """Installed and removed, nothing is left but what somebody else put there."""
+def test_archive_installed(made, pairs, version, tmp_path):
+    """By its own script, and removed."""
     passes(['tar', 'xzf', next(made.glob('*-linux-x86_64.tar.gz')), '-C', tmp_path])
     [unpacked] = tmp_path.iterdir()
-    removed = tmp_path / 'removed'
-    (removed / 'bin').mkdir(parents=True)
-    (removed / 'bin' / 'mine').write_text('mine')
-    for words in (
-        [unpacked / 'install', '--prefix', removed],
-        [removed / 'bin' / 'nonobench-check-site', removed / 'share/doc/nonobench/examples'],
-        [removed / 'share' / 'nonobench' / 'install', '--uninstall'],
-    ):
-        run = clean(words)
-        assert run.status == 0, run
-    assert [
-        file.relative_to(removed).as_posix() for file in removed.rglob('*') if file.is_file()
-    ] == ['bin/mine']
-
-
-def test_install_from_a_checkout(made, pairs, version, tmp_path):
-    """The repository's own ./install, where nothing was built: with neither a release nor a toolchain it says so, a release that
-    was changed is not taken, and the one that was made is, also where a toolchain is there (one that would fail).
-    """
-    checkout, name = tmp_path / 'checkout', f'nonobench-{version}-linux-x86_64.tar.gz'
-    checkout.mkdir()
-    shutil.copy(ROOT / 'install', checkout)
-    words = [checkout / 'install', '--prefix', tmp_path / 'none']
-    run = clean(words)
-    assert run.status != 0
-    assert re.search(r'(?m)no release in dist/$', (run.wrote + run.said).decode())
-    (checkout / 'dist').mkdir()
-    shutil.copy(made / 'SHA256SUMS', checkout / 'dist')
-    (checkout / 'dist' / name).write_bytes((made / name).read_bytes() + b'x')
-    assert clean(words).status != 0
-    assert not (tmp_path / 'none').exists()
-    shutil.copy(made / name, checkout / 'dist')
-    (tmp_path / 'toolchain').mkdir()
-    (tmp_path / 'toolchain' / 'rt').symlink_to('/bin/false')
-    run = clean(
-        [checkout / 'install', '--prefix', tmp_path / 'by-install'], before=tmp_path / 'toolchain'
-    )
-    assert run.status == 0, run
-    try_program([tmp_path / 'by-install' / 'bin' / 'nonobench'], pairs, version)
+    shutil.copy(ROOT / 'packages' / 'linux' / 'install', unpacked)
+    words = [unpacked / 'install', '--prefix', tmp_path / 'to']
+    assert clean(words).status == 0
+    try_program([tmp_path / 'to' / 'bin' / 'nonobench'], pairs, version)
+    run = clean([tmp_path / 'to' / 'bin' / 'nonobench-audit', '--version'])
+    assert (run.status, run.wrote.decode()) == (0, f'nonobench-audit {version}\n')
+    assert clean([*words, '--uninstall']).status == 0
+    assert [file for file in (tmp_path / 'to').rglob('*') if not file.is_dir()] == []
 
 
 def test_deb(made, pairs, version, tmp_path):

@@ -1,4 +1,5 @@
-"""The Python package beside its own tests in python/tests: installed by pip, and the report of an audit that docs/ shows."""
+"""The Python package beside its own tests in python/tests: installed by pip, and the report of an
+audit that docs/ shows."""
 
 import os
 import re
@@ -9,12 +10,13 @@ import pytest
 from tried import EXAMPLES, ROOT, ended, passes
 
 ASK = '''import sys, nonobench
-print(nonobench.check(*(open(name, "rb").read() for name in sys.argv[1:]), published=[(1, 1)]).givens)'''
+print(nonobench.check(*(open(name, "rb").read() for name in sys.argv[1:]), published=[(1, 1)]).givens)'''  # noqa: E501
 
 
 @pytest.mark.all
 def test_by_pip(library, tmp_path):
-    """Installed as python/README.md says, without an index to fetch from, and asked from another folder."""
+    """Installed as python/README.md says, without an index to fetch from, and asked from another
+    folder."""
     if subprocess.run(
         [sys.executable, '-m', 'venv', tmp_path / 'env'], capture_output=True
     ).returncode:
@@ -32,7 +34,9 @@ def test_by_pip(library, tmp_path):
     if not (ROOT / 'c' / 'out' / 'libnonobench.so').exists():
         env['NONOBENCH_LIBRARY'] = str(library)
     run = ended(
-        [python, '-c', ASK, EXAMPLES / 'given.ppm', EXAMPLES / 'given.cert'], cwd=tmp_path, env=env
+        [python, '-c', ASK, EXAMPLES / 'given.ppm', EXAMPLES / 'given.ppm.cert'],
+        cwd=tmp_path,
+        env=env,
     )
     assert (run.status, run.wrote) == (0, b'(Given(row=1, column=1),)\n'), run
 
@@ -42,12 +46,13 @@ def without_version(text):
 
 
 def test_report_of_the_examples(library, tmp_path):
-    """Some puzzles of examples/ are ambiguous, so the status is 1. With AUDIT_WRITE=1 the report in docs/ is written anew."""
+    """Some puzzles of examples/ are ambiguous, so the status is 1. With AUDIT_WRITE=1 the report in
+    docs/ is written anew."""
     for name, title in (('PIL', 'Pillow'), ('defusedxml', 'defusedxml'), ('jinja2', 'Jinja2')):
         pytest.importorskip(name, reason=f'there is no {title}')
     report, shown = tmp_path / 'audit.html', ROOT / 'docs' / 'audit.html'
     words = [
-        '--allow',
+        '--max-guesses',
         '10000',
         '--quiet',
         '--title',

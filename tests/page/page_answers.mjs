@@ -1,4 +1,4 @@
-// Tests of the page's reader of answers. The texts are those of docs/FORMATS.md and of small
+// Tests of the page's reader of answers. The texts are those of docs/SESSION.md and of small
 // pictures worked by hand. Run: node --test tests/page/page_answers.mjs
 import assert from 'node:assert/strict';
 import {test} from 'node:test';

@@ -261,11 +261,19 @@ export class Page {
     });
   }
 
-  /** The middle of an element in the window. */
+  /** The middle of an element in the window; what it is in is opened, as a menu or a swatch. */
   async middle(selector) {
     return this.run((wanted) => {
       const element = document.querySelector(wanted);
       if (!element) throw new Error(`there is no ${wanted}`);
+      const closed = element.closest('[popover]:not(:popover-open)');
+      if (closed)
+        document
+            .querySelector(
+                closed.id === 'swatch' ? '#palette [aria-checked="true"]' :
+                                         `[popovertarget="${closed.id}"]`
+            )
+            .click();
       element.scrollIntoView({block: 'nearest', inline: 'nearest'});
       const {left, top, width, height} = element.getBoundingClientRect();
       if (!width || !height) throw new Error(`${wanted} is not seen`);

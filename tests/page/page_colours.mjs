@@ -285,3 +285,91 @@ test('colours are called as people who draw call them', () => {
         new Set(table['document.hues'].split(', ')).size, 25, 'each language has a name for each'
     );
 });
+
+// ---- blues, and what real icons have
+
+const tripleOfHex = (hex) => [0, 2, 4].map((at) => parseInt(hex.slice(at, at + 2), 16));
+
+// A triple by hue in degrees, saturation and lightness in percent (CSS Color 4).
+function hslTriple(hue, saturation, lightness) {
+  const [s, l] = [saturation / 100, lightness / 100];
+  return [0, 8, 4].map((turn) => {
+    const k = (turn + hue / 30) % 12;
+    return Math.round(255 * (l - s * Math.min(l, 1 - l) * Math.max(-1, Math.min(k - 3, 9 - k, 1))));
+  });
+}
+
+test('hues from 200 to 235 are no purple, and no grey where they have some colour', () => {
+  const wrong = [];
+  for (let hue = 200; hue <= 235; hue += 5) {
+    for (const saturation of [20, 25, 30, 35, 40, 50, 60, 80, 100]) {
+      for (let lightness = 15; lightness <= 80; lightness += 5) {
+        const name = nameOf(hslTriple(hue, saturation, lightness), 255);
+        const isDull = saturation < 40 || lightness < 20;
+        if (/purple|lavender|magenta|pink/.test(name) || (/grey/.test(name) && !isDull))
+          wrong.push([hue, saturation, lightness, name]);
+      }
+    }
+  }
+  assert.deepEqual(wrong, []);
+  for (const hex of ['4a6078', '3f4d6b', '495474', '3a5979', '6b7a99', '5c6b8a'])
+    assert.match(nameOf(tripleOfHex(hex), 255), /blue/, hex);
+});
+
+// The palettes of icons of Debian's adwaita-icon-theme, over white in at most six colours, with
+// what one calls them, by eye; and the colours of GNOME's palette by its own names.
+const ICONS = {
+  'address-book-new': '5c86b7 blue; 6997c9 blue|light blue; 7a8771 grey|green; b5c3bc light grey',
+  'applications-games': '6b6c69 dark grey|grey; 90928d grey; c22727 red; cabdb7 light grey|beige',
+  'applications-graphics':
+      '446649 dark green; b44417 brown|dark orange; d4b25c gold|tan; d9c79f beige|tan',
+  'applications-science':
+      '689561 green; afb2a6 light grey; cfa842 gold|dark gold; d46a0d dark orange|orange',
+  'battery-full': '69a742 green; 6c6e6c dark grey|grey; 97d170 light green|lime; abbba5 light grey',
+  'camera-photo': '282d2f very dark grey; 575c5f dark grey; 837860 grey|brown; cecece light grey',
+  'dialog-error':
+      'be1b1b red|dark red; c2a5a5 light pink|light grey; ce1e1e red; d5cfcf light grey',
+  'dialog-warning':
+      '454036 very dark grey|dark grey; d57013 dark orange|orange; e8c79d beige|tan; f0a452 light orange|orange',
+  'edit-clear': '8f918c grey; b8bbb4 light grey; d4d5d1 light grey|very light grey; fefefe white',
+  'emblem-favorite':
+      'c9210c red; cb452a red|dark orange; d3aaaa light pink; e58e5b salmon|light orange',
+  'emblem-photos': '151007 black; 77b541 green|lime; b9b9ab light grey; e2be4f gold',
+  'face-devilish':
+      '5d231d dark brown; a21608 dark red|red; bb502d dark orange|brown; ebc464 gold|tan',
+  'face-monkey': '5c4319 dark brown|brown; 9c6b1e light brown|brown; d8aa65 tan; e6c38b tan|beige',
+  'face-smile':
+      '4f3d20 dark brown; c26e0e brown|light brown|dark orange; e7a433 gold|orange; eee9d0 beige',
+  'help-browser': 'd34a49 red; d9c4a2 beige|tan; e6ba7a tan|light orange; efa09f light pink|salmon',
+  'mail-mark-important': '89807c grey; c91f1f red; cdaaa7 light pink; dbdcd8 very light grey',
+  'preferences-desktop-wallpaper':
+      '426422 dark green; 509211 green; 81827e grey; acaba1 light grey',
+  'security-high': '6d625f dark grey|grey; a89f9c light grey|grey; d3322c red; d6c02d gold|yellow',
+  'starred': '8a7413 olive|dark gold; d3b71c gold; e2daa1 beige|khaki; f4e25f yellow',
+  'system-software-install':
+      '956210 brown|light brown; d6a352 tan|gold|light orange; dfc499 beige|tan; ebe1d2 beige',
+};
+const GNOME = {
+  blue: '99c1f1 62a0ea 3584e4 1c71d8 1a5fb4',
+  green: '8ff0a4 57e389 33d17a 2ec27e 26a269',
+  'yellow|gold': 'f9f06b f8e45c f6d32d f5c211 e5a50a',
+  orange: 'ffbe6f ffa348 ff7800 e66100 c64600',
+  red: 'f66151 ed333b e01b24 c01c28 a51d2d',
+  purple: 'dc8add c061cb 9141ac 813d9c 613583',
+  'brown|tan': 'cdab8f b5835a 986a44 865e3c 63452c',
+};
+
+test('palettes of icons are called as one calls them', () => {
+  const icons = Object.values(ICONS
+  ).flatMap((text) => text.split('; ').map((one) => [one.slice(0, 6), one.slice(7).split('|')]));
+  assert.equal(Object.keys(ICONS).length, 20);
+  assert.deepEqual(
+      icons.map(
+               ([hex, names]) => [hex, nameOf(tripleOfHex(hex), 255), names]
+      ).filter(([, name, names]) => !names.includes(name)),
+      []
+  );
+  for (const [hues, hexes] of Object.entries(GNOME))
+    for (const hex of hexes.split(' '))
+      assert.match(nameOf(tripleOfHex(hex), 255), new RegExp(`(^| )(${hues})$`), hex);
+});

@@ -160,7 +160,7 @@ export async function pressedColour({browser, url, folder}) {
 export async function slidingPoint(hands, {page, trial}) {
   await openIcon(page, 'mug');
   const told = () => page.until(
-      () => /^(✓ Unique.*(easy|medium|hard|expert)|≠ Ambiguous)/
+      () => /^(Unique.*(easy|medium|hard|expert)|Ambiguous)/
                 .exec(document.querySelector('#import-verdict').textContent)
                 ?.[0],
       15000 * SLACK
@@ -195,9 +195,7 @@ export async function slidingPoint(hands, {page, trial}) {
   await hands.press('dialog button.main');
   await isOpen(page);
   const word = await trial.judged();
-  assert.ok(
-      shown.startsWith(word === 'unique' ? '✓ Unique' : '≠ Ambiguous'), `${shown}, but ${word}`
-  );
+  assert.ok(shown.startsWith(word === 'unique' ? 'Unique' : 'Ambiguous'), `${shown}, but ${word}`);
 }
 
 /** Line art keeps thin lines; dithering and specks change the picture. */
@@ -249,6 +247,46 @@ export async function lineArt({browser, url, folder}) {
   await page.close();
 }
 
+/** The image of a puzzle can be adjusted after it was made, as one undo. */
+export async function importAdjusted({browser, url, folder}) {
+  const {page, trial} = await fresh(browser, url, folder, 'adjusted');
+  const isAsked = () =>
+      page.until(() => document.querySelector('dialog[open] #import-columns'), 10000 * SLACK);
+  const columns = () => page.run(() => document.getElementById('import-columns').value);
+  await openIcon(page, 'outline');
+  await page.press('Enter');
+  await isOpen(page);
+  const before = await trial.state();
+  await page.run(() => bench.become((doc) => ({...doc, about: {title: 'Kept'}})));
+  await trial.press('p');
+  await page.run(() => runAction('adjust'));
+  await isAsked();
+  assert.equal(await columns(), String(before.columns));
+  await page.run(() => {
+    const field = document.getElementById('import-columns');
+    field.value = '25';
+    field.dispatchEvent(new Event('input', {bubbles: true}));
+  });
+  await page.until(
+      () => /\S/.test(document.getElementById('import-verdict').textContent) &&
+          !document.getElementById('import-verdict').textContent.startsWith('Looking'),
+      20000 * SLACK
+  );
+  await page.click('dialog[open] button.main');
+  await page.until(() => bench.state.columns === 25, 10000 * SLACK);
+  assert.equal(await page.run(() => bench.state.about.title), 'Kept');
+  assert.equal((await trial.state()).strokes[0], 1, 'one undo');
+  await trial.press('Control+z');
+  assert.deepEqual((await trial.state()).picture, before.picture);
+  await page.run(() => runAction('adjust'));
+  await isAsked();
+  assert.equal(await columns(), '25', 'what was chosen stays');
+  await page.press('Escape');
+  await trial.open(ppmOf(['a.', '.a']), 'other');
+  assert.equal(await page.run(() => actions.get('adjust').can()), false);
+  await page.close();
+}
+
 // A PNG of one bit a pixel: two fifths are white, at the left, and the rest is black.
 const bigPng = (page, side) => page.run(async (wide) => {
   const table = Uint32Array.from({length: 256}, (_, at) => {
@@ -289,6 +327,24 @@ const bigPng = (page, side) => page.run(async (wide) => {
   return png.length;
 }, side);
 
+/** While a photo of 12 megapixels is read, the page says so, from the start screen on. */
+export async function largeIsTold({browser, url, folder}) {
+  const {page} = await fresh(browser, url, folder, 'told');
+  await page.run(() => {
+    const line = document.getElementById('said');
+    window.heard = [];
+    new MutationObserver(
+        () => window.heard.push([line.textContent, line.checkVisibility()])
+    ).observe(line, {childList: true, characterData: true, subtree: true});
+  });
+  await bigPng(page, 3504);
+  await facts(page, '40 by 40 cells', 60000);
+  const heard = await page.run(() => window.heard);
+  assert.deepEqual(heard.find(([text]) => text.includes('Opening')), ['Opening large', true]);
+  assert.equal(await said(page), '', 'the dialog speaks for itself');
+  await page.close();
+}
+
 /** A picture of 100 megapixels is made smaller while it is read. */
 export async function hundredMegapixels({browser, url, folder}) {
   const {page, trial} = await fresh(browser, url, folder, 'hundred');
@@ -314,12 +370,6 @@ export async function longImages({browser, url, folder}) {
   await facts(page, '10 by 10 cells, 4 colours');
   await page.close();
 }
-
-const COLOURS_OPEN = '#colours-open';
-const editColours = async (hands) => {
-  if (await hands.page.run((one) => document.querySelector(one).checkVisibility(), COLOURS_OPEN))
-    await hands.press(COLOURS_OPEN);
-};
 
 /**
  * A palette file gives colours to a picture, the picture's go into one, and a colour is changed by
@@ -358,7 +408,6 @@ export async function palettesPoint(hands, {page, trial, own}) {
   await page.until(() => bench.state.colours[1].join() === '10,10,10', 5000 * SLACK);
   assert.deepEqual(await palette(), ['250,250,250', '10,10,10', '190,50,50']);
   await hands.colour('b');
-  await editColours(hands);
   await hands.fill('#colour-named', 'tomato');
   await page.press('Enter');
   await page.until(() => bench.state.colours[2].join() === '255,99,71', 5000 * SLACK);

@@ -1,6 +1,6 @@
 // Tests of the way from one document to another: rectangles that cover cells, commands, patches,
 // what goes with lines, and how a document is opened. Expected values were worked out by hand from
-// docs/FORMATS.md. Run: node --test tests/page/page_cover.mjs
+// docs/SESSION.md. Run: node --test tests/page/page_cover.mjs
 import assert from 'node:assert/strict';
 import {test} from 'node:test';
 import '../../page/test/limits.mjs';

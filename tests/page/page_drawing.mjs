@@ -33,6 +33,24 @@ export async function bucketAndRecolour({trial, page}) {
   assert.equal((await trial.state()).strokes[0], 0);
 }
 
+/** Shift and a click draw a line from the cell that was painted last. */
+export async function shiftDrawsLine({trial, page}) {
+  const blank = Array(5).fill('.......');
+  await trial.open(ppmOf(['......a', ...blank.slice(1)]));
+  await page.press('1', 'p');
+  await trial.drag([[2, 2]]);
+  await trial.drag([[2, 5]], {keys: 8});
+  await shows(trial, ['......a', '.aaaa..', ...blank.slice(2)], 'along a row');
+  await trial.drag([[5, 5]], {keys: 8});
+  await shows(
+      trial, ['......a', '.aaaa..', '....a..', '....a..', '....a..'], 'and on from its end'
+  );
+  assert.equal((await trial.state()).strokes[0], 3);
+  await trial.open(ppmOf(['a..', '...']));
+  await trial.drag([[2, 3]], {keys: 8});
+  await shows(trial, ['a..', '..a'], 'in another picture there is no last cell');
+}
+
 export async function selecting({trial, page}) {
   await trial.open(ppmOf(DUCK));
   await page.press('s');

@@ -51,6 +51,29 @@ test('a raw picture whose samples look like text', () => {
   assert.deepEqual(pixels(readPpm(bytes('P6\n# c\n1 1\n255\n#\n '))), [[35, 10, 32]]);
 });
 
+test('PBM pictures are black and white, as text and in bits', () => {
+  const [white, black] = [[255, 255, 255], [0, 0, 0]];
+  const wanted = [black, white, black, white, black, black];
+  const plain = readPpm(bytes('P1\n# c\n3 2\n1 01\n0 1#c\n1\n'));
+  assert.deepEqual([plain.width, plain.height, plain.maxval], [3, 2, 255]);
+  assert.deepEqual(pixels(plain), wanted);
+  // 101 and 011 from the highest bit on; the others fill the byte
+  assert.deepEqual(pixels(readPpm(bytes('P4 3 2\n\u00a0\u007f'))), wanted);
+  // ten columns: two bytes a row
+  const wide = pixels(readPpm(bytes('P4 10 1\n\u0001\u0040')));
+  assert.deepEqual(wide, [...Array(7).fill(white), black, white, black]);
+  assert.deepEqual(docOfImage(plain).picture, ['a.a', '.aa']);
+  for (const text of ['P1 1 1 1', 'P1#c\n1 1 1', 'P4 1 1 \u0080'])
+    assert.equal(kindOfFile(bytes(text)), 'ppm');
+  assert.equal(kindOfFile(bytes('P1x 1 1')), 'non', 'a text of another kind');
+  refused(() => readPpm(bytes('P1 2 1 1')), /ends before its samples/);
+  refused(() => readPpm(bytes('P1 1 1 2')), /samples at byte 7 is not a number/);
+  refused(() => readPpm(bytes('P1 1 1 1 0')), /more text after/);
+  refused(() => readPpm(bytes('P4 9 1 \u0080')), /ends before its last sample/);
+  refused(() => readPpm(bytes('P4 1 1#c\n\u0080')), /height at byte 6 is not a number/);
+  refused(() => readPpm(bytes('P4 4097 1 ')), /4,096/);
+});
+
 test('pictures that are not read', () => {
   refused(() => readPpm(bytes('P3')), /ends before its width/);
   refused(() => readPpm(bytes('P3 2x 1 255')), /width at byte 3 is not a number/);

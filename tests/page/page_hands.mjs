@@ -102,8 +102,10 @@ export async function downloaded(page, own, ending) {
   throw new Error(`no download ${ending}`);
 }
 
-export const act = (page, id) =>
-    page.run((one) => document.querySelector(`#out [data-action="${one}"]`).click(), id);
+/** Does what a menu has. */
+export const act = (page, id) => page.run((one) => {
+  runAction(one);
+}, id);
 export const menu = async (page, id) => {
   await page.run(() => document.querySelector('#menus [popovertarget="menu-file"]').click());
   await page.run((one) => document.querySelector(`#menu-file [data-action="${one}"]`).click(), id);

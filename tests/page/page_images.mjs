@@ -62,8 +62,8 @@ test('a mean is a mean of light', () => {
 
 test('parts of pixels count by how much of them falls on a cell', () => {
   const image = imageOf(['wwk'], COLOURS);
-  const scaled =
-      scaledTo(image, whole(image), 2, 1);  // 1.5 pixels a cell: white; and a third white
+  // 1.5 pixels a cell: white; and a third white
+  const scaled = scaledTo(image, whole(image), 2, 1);
   assert.deepEqual(pixel(scaled, 0), [255, 255, 255, 255]);
   assert.deepEqual(pixel(scaled, 1), [156, 156, 156, 255]);  // light 1/3
   assert.deepEqual(

@@ -34,8 +34,26 @@ export class Hands {
     throw new Error(`Tab does not reach ${selector}`);
   }
 
+  // Opens what an element is in, as a menu or a swatch; says whether there was something to open.
+  async opens(selector) {
+    const closed = await this.page.run(
+        (wanted) =>
+            document.querySelector(wanted)?.closest('[popover]:not(:popover-open)')?.id ?? '',
+        selector
+    );
+    if (!closed) return false;
+    await this.press(
+        closed === 'swatch' ? '#palette [aria-checked="true"]' : `[popovertarget="${closed}"]`
+    );
+    await this.page.until(
+        (id) => document.getElementById(id).matches(':popover-open'), 3000 * SLACK, closed
+    );
+    return closed !== 'swatch';
+  }
+
   /** Presses a button. */
   async press(selector) {
+    if (await this.opens(selector) && this.byKeys) return this.arrowTo(selector);
     await this.page.until(
         (wanted) => document.querySelector(wanted)?.checkVisibility({visibilityProperty: true}),
         5000 * SLACK,
@@ -68,12 +86,27 @@ export class Hands {
     return this.trial.settled();
   }
 
+  // Goes through an open menu to an entry, and takes it.
+  async arrowTo(entry) {
+    for (let step = 0; step < 40; step++) {
+      if (await this.page.run((wanted) => document.activeElement?.matches(wanted) ?? false, entry))
+        return this.page.press('Enter');
+      await this.page.press('ArrowDown');
+    }
+    throw new Error(`the arrows do not reach ${entry}`);
+  }
+
   /** Types into a field in place of what stands there. */
   async fill(selector, text) {
+    await this.opens(selector);
     if (this.byKeys)
       await this.tabTo(selector);
     else
       await this.press(selector);
+    await this.page.until(
+        (wanted) => document.activeElement?.matches(wanted), 3000 * SLACK, selector
+    );
+    if (this.input === 'touch') await pause(350);  // a finger's click comes some time behind it
     await this.page.press('Control+a', ...text);
   }
 
@@ -102,12 +135,7 @@ export class Hands {
         3000 * SLACK,
         `menu-${place}`
     );  // no hand is quicker
-    for (let step = 0; step < 40; step++) {
-      if (await this.page.run((wanted) => document.activeElement?.matches(wanted) ?? false, entry))
-        return this.page.press('Enter');
-      await this.page.press('ArrowDown');
-    }
-    throw new Error(`the arrows do not reach ${id}`);
+    return this.arrowTo(entry);
   }
 
   /** Chooses a tool by its button, or by its key. */
@@ -129,8 +157,8 @@ export class Hands {
   async colour(letter) {
     if (this.byKeys)
       await this.page.press(String('.abcdefgh'.indexOf(letter)));
-    else
-      await this.press(`#palette [data-letter="${letter}"]`);
+    else if (await this.page.run((wanted) => tools.colour !== wanted, letter))
+      await this.press(`#palette [data-letter="${letter}"]`);  // the chosen one would open
     return this.page.until((wanted) => tools.colour === wanted, 2000 * SLACK, letter);
   }
 

@@ -56,8 +56,8 @@ test('unique with its grade, and not unique', needsAssess, async () => {
 test('the newest wins, and what it replaces is never told', needsAssess, async () => {
   const quick = await told([PAIR, PAIR, UNIQUE]);
   assert.deepEqual(quick.map(({word}) => word), ['works', 'works', 'works', 'unique']);
-  const slow =
-      await told([PAIR, UNIQUE], {isBusy: true});  // the second comes while the first is worked on
+  // the second comes while the first is worked on
+  const slow = await told([PAIR, UNIQUE], {isBusy: true});
   assert.deepEqual(slow.map(({word}) => word), ['works', 'works', 'unique']);
 });
 
@@ -112,12 +112,12 @@ test('an engine that fails is told apart from one that takes too long', async ()
 });
 
 test('what is told, in words', () => {
-  assert.equal(judgedText({word: 'unique', open: 0, grade: {word: 'easy'}}), '✓ Unique, easy');
+  assert.equal(judgedText({word: 'unique', open: 0, grade: {word: 'easy'}}), 'Unique, easy');
   assert.equal(
       judgedText({word: 'unique', open: 1200, grade: {word: 'expert'}}),
-      '✓ Unique, 1,200 cells need more than line logic, expert'
+      'Unique, 1,200 cells need more than line logic, expert'
   );
-  assert.equal(judgedText({word: 'ambiguous', open: 4}), '≠ Ambiguous, 4 cells are open');
+  assert.equal(judgedText({word: 'ambiguous', open: 4}), 'Ambiguous, 4 cells are open');
   assert.equal(judgedText({word: 'undecided'}), 'Not decided within a few seconds');
   assert.equal(judgedText({word: 'works'}), 'Looking for another solution …');
 });

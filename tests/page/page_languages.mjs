@@ -80,7 +80,10 @@ const ENGLISH = () => {
           [one.getAttribute('aria-label'),
            one.title,
            ...[...one.childNodes]
-               .filter((node) => node.nodeType === 3 && !one.matches('script, style, #version'))
+               .filter(
+                   (node) =>
+                       node.nodeType === 3 && !one.matches('script, style, #version, #needs *')
+               )
                .map((node) => node.textContent)]
   );
   return [...new Set(
@@ -131,16 +134,7 @@ export async function germanPoint(hands, {page, trial}) {
       ['de', 'ltr']
   );
   await trial.judged();
-  assert.equal(await trial.text('#verdict'), '✓ Eindeutig');
-  const [symmetry, tools] = await page.run(
-      () => ['symmetry', 'tools'].map(
-          (id) => document.getElementById(id).getBoundingClientRect().right
-      )
-  );
-  assert.ok(
-      symmetry <= tools || await page.run(() => innerWidth <= 600),
-      'the choice of a symmetry stands in its box'
-  );  // a phone's row of tools scrolls
+  assert.equal(await trial.text('#verdict'), 'Eindeutig');
   const before = (await trial.picture())[2][2];
   await hands.colour(before === '.' ? 'a' : '.');
   await hands.stroke([3, 3]);
@@ -149,7 +143,7 @@ export async function germanPoint(hands, {page, trial}) {
   assert.equal((await trial.picture())[2][2], before, 'and taken back');
   await trial.open(ppmOf(['a...', '.a..', '..a.', '...a']));
   assert.equal(await trial.judged(), 'ambiguous');
-  assert.equal(await trial.text('#verdict'), '≠ Mehrdeutig');
+  assert.equal(await trial.text('#verdict'), 'Mehrdeutig');
   if (await page.run(() => document.getElementById('verdict-open').checkVisibility()))
     await hands.press('#verdict-open');
   await hands.press('#verdict-do [data-action="fix"]');
@@ -203,7 +197,7 @@ export async function frenchPoint(hands, {page, trial}) {
   );
   await trial.open(ppmOf(['a...', '.a..', '..a.', '...a']));
   assert.equal(await trial.judged(), 'ambiguous');
-  assert.equal(await trial.text('#verdict'), '≠ Ambiguë');
+  assert.equal(await trial.text('#verdict'), 'Ambiguë');
   if (await page.run(() => document.getElementById('verdict-open').checkVisibility()))
     await hands.press('#verdict-open');
   await hands.press('#verdict-do [data-action="fix"]');

@@ -53,8 +53,8 @@ test(
       );  // what is packed takes at most a third more as signs
       const fits = joined(most);
       assert.deepEqual([fits.status, fits.size <= MOST_BYTES], [0, true]);
-      const large =
-          joined(MOST_BYTES - small.size + 2000);  // longer than its room, whatever the signs take
+      // longer than its room, whatever the signs take
+      const large = joined(MOST_BYTES - small.size + 2000);
       assert.equal(large.status, 1);
       assert.match(large.stderr, /^web\/join\.mjs: the page has \d+ bytes, more than 1048576$/m);
     }

@@ -242,3 +242,42 @@ export async function nothingIsSent({browser, url, folder}) {
   );
   await page.close();
 }
+
+/**
+ * A browser without scripts, or without what the page needs, is told which browsers have it, and
+ * shows nothing else.
+ */
+export async function lacksAreTold({browser, url}) {
+  const shown = (page) => page.run(
+      () => [...document.body.children]
+                .filter((one) => one.checkVisibility() && one.offsetHeight > 0)
+                .map((one) => one.id)
+  );
+  const lacking = [
+    ['', ['start', 'bar']],
+    ['delete HTMLElement.prototype.popover;', ['needs']],
+    ['delete WebAssembly.validate;', ['needs']],
+    ['CSS.supports = (what) => !/:has/.test(what);', ['needs']],
+    [null, ['needs']]
+  ];
+  for (const [before, wanted] of lacking) {
+    const page = await browser.page();
+    if (before === null)
+      await page.send('Emulation.setScriptExecutionDisabled', {value: true});
+    else
+      await page.before(before);
+    await page.goto(url);
+    await pause(200);
+    assert.deepEqual(
+        (await shown(page)).filter((id) => ['needs', 'start', 'bar'].includes(id)),
+        wanted,
+        before ?? 'no scripts'
+    );
+    if (wanted.includes('needs'))
+      assert.match(
+          await page.run(() => document.getElementById('needs').innerText),
+          /Chrome or Edge 114.*neueren.*navigateur/s
+      );
+    await page.close();
+  }
+}

@@ -80,7 +80,8 @@ export async function helpOnPhones({browser, url, folder}) {
   await page.tap('#play-help');
   await page.until(() => document.querySelector('.help li'), 3000 * SLACK);
   const told = await trial.text('.help');
-  for (const wanted of ['×', '⌫', 'right mouse button', '“Check”', '“Hint”', '“Start over”'])
+  for (const wanted of
+           ['The cross', 'The eraser', 'right mouse button', '“Check”', '“Hint”', '“Start over”'])
     assert.ok(told.includes(wanted), wanted);
   assert.equal(await page.run(() => document.querySelector('#version')), null);
   await page.close();
@@ -173,25 +174,25 @@ export async function archiveTwice({browser, url, folder}) {
 }
 
 /**
- * The third press of Hint tells why, in each language: by the clue alone, by known cells, or by
- * colours that other lines exclude.
+ * The third press of Hint tells why, in each language: by what is known of the line, or by a block
+ * that covers the cell wherever it lies.
  */
 export async function hintsTellWhy({browser, url, folder}) {
   const WHY = {
     en: [
-      'Row 2 settles column 2, by its clue alone.',
-      'Column 1 settles row 3, by its clue and the colours that crossing lines exclude.',
-      'Row 2 settles columns 1–3, by its clue alone.'
+      'Row 2: columns 1–2 are black, since column 3 is background.',
+      'Column 3: row 2 is red, as the red 2 covers it wherever it lies.',
+      'Row 1: column 2 is black, since columns 1, 3 are background.'
     ],
     de: [
-      'Zeile 2 bestimmt Spalte 2, allein nach ihrem Hinweis.',
-      'Spalte 1 bestimmt Zeile 3, nach ihrem Hinweis und den Farben, die kreuzende Linien ausschließen.',
-      'Zeile 2 bestimmt Spalten 1–3, allein nach ihrem Hinweis.'
+      'Zeile 2: Spalten 1–2 sind Schwarz, denn Spalte 3 ist Hintergrund.',
+      'Spalte 3: Zeile 2 ist Rot, denn der Block 2 Rot bedeckt sie, wo immer er liegt.',
+      'Zeile 1: Spalte 2 ist Schwarz, denn Spalten 1, 3 sind Hintergrund.'
     ],
     fr: [
-      'Ligne 2 détermine colonne 2, d’après son seul indice.',
-      'Colonne 1 détermine ligne 3, d’après son indice et les couleurs que des lignes croisées excluent.',
-      'Ligne 2 détermine colonnes 1–3, d’après son seul indice.'
+      'Ligne 2 : colonnes 1–2 sont en noir, car colonne 3 est du fond.',
+      'Colonne 3 : ligne 2 est en rouge, car le 2 rouge la couvre où qu’il soit.',
+      'Ligne 1 : colonne 2 est en noir, car colonnes 1, 3 sont du fond.'
     ],
   };
   for (const [language, wanted] of Object.entries(WHY)) {
@@ -280,7 +281,7 @@ export async function smallPoint(hands) {
   ]);
   await hands.stroke([1, 1], [1, 3]);
   assert.equal(await trial.judged(), 'unique');
-  assert.equal((await verdict())[0], '✓ Unique');
+  assert.equal((await verdict())[0], 'Unique');
   await page.until(
       () => document.querySelector('#palette [data-letter="a"]').dataset.cells === '3', 3000 * SLACK
   );
@@ -399,16 +400,12 @@ export async function messagesCoverNothing({browser, url, folder}) {
   }
 }
 
-/**
- * What is typed into a field of a colour moves nothing, also where the panel's edge cuts the
- * field.
- */
+/** What is typed into a field of a colour moves nothing. */
 export async function typingPoint(hands) {
   const {page} = hands;
   await hands.press('#new-go');
   await isOpen(page);
-  if (await page.run(() => document.getElementById('colours-open').checkVisibility()))
-    await hands.press('#colours-open');
+  await hands.opens('#ink-name');
   const spot = (id) => page.run(
       (one) => new Promise((go) => requestAnimationFrame(() => requestAnimationFrame(() => {
                                                            const {left, top} =
@@ -420,11 +417,6 @@ export async function typingPoint(hands) {
   );
   for (const id of ['colour-named', 'ink-name', 'ink-sign']) {
     if (hands.byKeys) await hands.tabTo(`#${id}`);
-    await page.run((one) => {  // in the middle, where the panel is that long
-      const {top, height} = document.getElementById(one).getBoundingClientRect();
-      document.getElementById('panels').scrollTop +=
-          top + height / 2 - document.getElementById('panels').getBoundingClientRect().bottom;
-    }, id);
     const before = await spot(id);
     const within = before.map((one) => one + 5);
     if (hands.input === 'mouse')
@@ -449,7 +441,7 @@ export async function heldPointer({trial, page}) {
       left + sheet.geometry.x(0),
       top + sheet.geometry.y(0),
       sheet.geometry.cell,
-      ...['tools', 'verdict', 'colours', 'hatching', 'out'].map(
+      ...['tools', 'verdict', 'colours', 'cell', 'lines', 'hatching'].map(
           (id) => document.getElementById(id).getBoundingClientRect().top
       )
     ].join();
@@ -589,7 +581,7 @@ export async function dialogsAtTheirTop({browser, url, folder}) {
       await fresh(browser, url, folder, 'top', {size: {width: 844, height: 390, touch: true}});
   await page.press('F1');
   await page.until(() => document.querySelector('#version'), 3000 * SLACK);
-  assert.deepEqual(await shown(page), [0, 'dialog-title']);
+  assert.equal((await shown(page))[0], 0);
   await page.press('Escape');
   await page.run(async () => {
     const canvas = Object.assign(document.createElement('canvas'), {width: 401, height: 301});
@@ -608,32 +600,6 @@ export async function dialogsAtTheirTop({browser, url, folder}) {
   assert.ok(
       source.top === preview.top && preview.bottom < buttons.top,
       `${preview.bottom} of ${buttons.top}`
-  );
-  await page.close();
-}
-
-/** On a phone one of what is told and what changes colours is open; the other closes. */
-export async function oneIsOpen({browser, url, folder}) {
-  const {page, trial} = await fresh(browser, url, folder, 'one', {size: SIZES.phone});
-  await trial.open(ppmOf(THREE), 'one');
-  const open = () => page.run(
-      () => ['audit', 'colours'].map((id) => document.getElementById(id).classList.contains('open'))
-  );
-  for (const [press, wanted] of [
-           ['#verdict-open', [true, false]],
-           ['#colours-open', [false, true]],
-           ['#verdict-open', [true, false]],
-           ['#verdict-open', [false, false]]]) {
-    await page.tap(press);
-    assert.deepEqual(await open(), wanted, press);
-  }
-  assert.deepEqual(
-      await page.run(
-          () => ['verdict-open', 'colours-open'].map(
-              (id) => document.getElementById(id).getAttribute('aria-expanded')
-          )
-      ),
-      ['false', 'false']
   );
   await page.close();
 }
@@ -663,7 +629,7 @@ export async function newBegins({trial, page}) {
       () =>
           [document.getElementById('panels').scrollTop,
            document.querySelector('#palette [aria-checked=true]').dataset.letter,
-           document.getElementById('ink-name').getBoundingClientRect().bottom]
+           document.getElementById('colour-add').getBoundingClientRect().bottom]
   );
   assert.deepEqual([scrolled, colour], [0, 'a']);
   assert.ok(below < 600, `the palette ends at ${below}`);
@@ -675,15 +641,17 @@ export async function menusTell({trial, page}) {
   const told = (menu, id) => page.run(([place, one]) => {
     document.getElementById(`menu-${place}`).showPopover();
     const {textContent} = document.querySelector(`#menu-${place} [data-action="${one}"]`);
+    const isTicked = document.querySelector(`#menu-${place} [data-action="${one}"] svg`);
     document.getElementById(`menu-${place}`).hidePopover();
-    return textContent;
+    return `${textContent}${isTicked ? ', ticked' : ''}`;
   }, [menu, id]);
   assert.deepEqual(
       [await told('edit', 'copy'), await told('edit', 'cut')], ['CopyCtrl+C', 'CutCtrl+X']
   );
-  assert.equal(await told('view', 'scheme-system'), 'Light or dark, like the system ✓');
+  assert.equal(await told('view', 'scheme-system'), 'Light or dark, like the system, ticked');
   await page.run(() => runAction('scheme-dark'));
   assert.deepEqual(
-      [await told('view', 'scheme-dark'), await told('view', 'scheme-light')], ['Dark ✓', 'Light']
+      [await told('view', 'scheme-dark'), await told('view', 'scheme-light')],
+      ['Dark, ticked', 'Light']
   );
 }

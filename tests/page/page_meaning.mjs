@@ -119,7 +119,10 @@ export async function hatching({trial, page}) {
   );
   await page.press('x');
   assert.equal(await page.run(() => sheet.other), true, 'the other picture in place');
-  assert.match(await trial.text('button[data-action="other"]'), /Back/);
+  assert.match(
+      await page.run(() => document.querySelector('#verdict-do [data-action="other"]').ariaLabel),
+      /Back/
+  );
   await page.press('x');
   for (const wanted of ['open', 'off', 'differing']) {
     await page.press('h');

@@ -10,7 +10,7 @@ const GUESS = ['.aa.', 'a..a', 'a..a'];  // one solution, eight cells to guess
 const isNarrow = (page) =>
     page.run(() => document.getElementById('verdict-open').checkVisibility());
 const isMoreOpen = (page) =>
-    page.run(() => document.getElementById('audit').classList.contains('open'));
+    page.run(() => document.getElementById('panels').classList.contains('open'));
 const moreOf = async (hands) => {
   if (await isNarrow(hands.page) && !(await isMoreOpen(hands.page)))
     await hands.press('#verdict-open');
@@ -66,15 +66,13 @@ export async function mendingPoint(hands) {
 export async function noGradeReached({trial, page}) {
   await trial.open(ppmOf(['aa', '.a']), 'tiny');
   assert.equal(await trial.judged(), 'unique');
-  await page.run(() => runAction('aim'));
+  await page.until(() => actions.get('harder').can(), 20000 * SLACK);
   await page.run(() => {
-    const goal = document.getElementById('fix-goal');
-    goal.value = 'hard';
-    goal.dispatchEvent(new Event('change', {bubbles: true}));
+    runAction('harder');
   });
   await page.until(
       () =>
-          /^Neither a change .* “hard”\. Fewer or more colours, another size or another background may/
+          /^Neither a change .* “medium”\. Fewer or more colours, another size or another background may/
               .test(document.getElementById('fix-said').textContent),
       20000 * SLACK
   );
@@ -90,22 +88,11 @@ export async function aimPoint(hands) {
   assert.equal(await trial.judged(), 'unique');
   const before = await trial.picture();
   await moreOf(hands);
-  await hands.press('#verdict-do [data-action="aim"]');
-  for (const word of ['easy', 'hard']) {
-    assert.equal(
-        await page.run(() => document.getElementById('fix-goal').value),
-        word === 'easy' ? '' : 'easy'
-    );
-    if (word === 'easy')
-      assert.equal(
-          await page.run(
-              () => document.getElementById('task').hidden &&
-                  !document.querySelector('#fix-list button')
-          ),
-          true,
-          'nothing is looked for before a word is chosen'
-      );
-    await hands.choose('#fix-goal', word);
+  await page.until(() => actions.get('harder').can(), 20000 * SLACK);
+  await hands.press('#details-do [data-action="harder"]');
+  for (const word of ['hard', 'easy']) {
+    if (word === 'easy') await hands.choose('#fix-goal', word);
+    assert.equal(await page.run(() => document.getElementById('fix-goal').value), word);
     await page.until(
         () => /found\./.test(document.getElementById('fix-said').textContent), 30000 * SLACK
     );
@@ -148,18 +135,19 @@ export async function walkingPoint(hands) {
   const {page, trial} = hands;
   await trial.open(ppmOf(['.a.', 'aa.', '...']), 'small');
   assert.equal(await trial.judged(), 'unique');
-  await moreOf(hands);
-  await hands.press('#verdict-do [data-action="walk"]');
+  await hands.menu('check', 'walk');
   await said(page, '^Step 0 of [1-9]');
   if (hands.byKeys)
     await page.press('ArrowRight');
   else
     await hands.press('#walk-on');
-  await said(page, '^Step 1 of 6: Row 2 settles column 2, by its clue alone\\.$');
+  await said(
+      page, '^Step 1 of 6: Row 2: column 2 is black, as the black 2 covers it wherever it lies\\.$'
+  );
   for (let step = 2; step <= 6; step++) await hands.press('#walk-on');
-  await said(page, '^Step 6 of 6: Row 2 settles column 1, since columns 2–3 are known\\.$');
-  await hands.press('#walk-hardest');  // one cell by one block
-  await said(page, '^Step 1 of 6');
+  await said(page, '^Step 6 of 6: Row 2: column 1 is black, since column 3 is background\\.$');
+  await hands.press('#walk-hardest');  // the first that needs a cell
+  await said(page, '^Step 3 of 6: Column 2: row 1 is black, since row 3 is background\\.$');
   await hands.press('#walk-end');
   assert.equal(
       await page.run(() => play.marks.flat().every((mark) => mark === '?')),
@@ -168,21 +156,28 @@ export async function walkingPoint(hands) {
   );
   for (const wanted
            of ['^Row 2: more cells follow\\.$',
-               '^Row 2 settles column 2\\.$',
-               '^Row 2 settles column 2, by its clue alone\\.$']) {
+               '^Row 2: columns 1–2 are black\\.$',
+               '^Row 2: columns 1–2 are black, since column 3 is background\\.$']) {
     await hands.press('#play-hint');
     await said(page, wanted);
   }
   await page.run(() => {
-    play.marks = ['?a.', 'aa.', '???'].map((row) => [...row]);
+    play.marks = ['???', 'a??', '???'].map((row) => [...row]);
   });
   for (const wanted
            of ['^Row 1: more cells follow\\.$',
-               '^Row 1 settles column 1\\.$',
-               '^Row 1 settles column 1, since columns 2–3 are known\\.$']) {
+               '^Row 1: column 2 is black\\.$',
+               '^Row 1: column 2 is black, since columns 1, 3 are background\\.$']) {
     await hands.press('#play-hint');
     await said(page, wanted);
   }
+  await hands.press('#play-do');
+  await said(page, '^Row 1: column 2 is black\\.$');
+  assert.deepEqual(
+      await page.run(() => play.marks.map((row) => row.join(''))), ['?a?', 'a??', '???']
+  );
+  await hands.press('#play-do');
+  await said(page, '^Solved\\.$');
   if (hands.byKeys)
     await page.press('Escape');
   else
@@ -415,7 +410,7 @@ export async function flawsAreWhole({browser, url, folder}) {
         wanted
     );
     const places = () => page.run(
-        () => [...document.querySelectorAll('#stage, #audit select')]
+        () => [...document.querySelectorAll('#stage, #details select')]
                   .map((one) => one.getBoundingClientRect())
                   .map(({left, top}) => `${left} ${top}`)
     );
@@ -426,33 +421,19 @@ export async function flawsAreWhole({browser, url, folder}) {
     await publish('^yes$');
     if (await isNarrow(page)) await page.click('#verdict-open');
     const before = await places();
-    assert.deepEqual(
-        await page.run(
-            () => [...document.querySelectorAll('#publish-do button')]
-                      .filter((one) => one.checkVisibility())
-                      .map((one) => one.dataset.action)
-        ),
-        ['export-site', 'share']
-    );
     await page.shot(`${folder}/fit-${name}.png`);
-    await page.click('#publish-do [data-action="share"]');
-    await page.until(() => document.querySelector('dialog[open] #share-link')?.value, 5000 * SLACK);
-    await page.press('Escape');
-    await page.until(() => !document.querySelector('dialog[open]'), 3000 * SLACK);
     await page.run(() => bench.stroke(['colour set b 128 45 45', 'pin 1 2']).then(() => true));
     await publish('^no: row 1, column 2 need not be given; .* look alike$');
-    assert.equal(
-        await page.run(() => document.getElementById('publish-do').checkVisibility()), false
-    );
     await page.run(() => document.getElementById('publish').scrollIntoView({block: 'nearest'}));
-    const cut = await page.run(
-        () => [document.getElementById('fit-row')].map(
-            (one) => [one.scrollHeight - one.clientHeight, one.scrollWidth - one.clientWidth]
-        )
-    );
-    assert.ok(cut.flat().every((by) => by <= 0), `${name}: ${cut}`);
+    const cut = await page.run(() => {
+      const one = document.getElementById('publish');
+      return [one.scrollHeight - one.clientHeight, one.scrollWidth - one.clientWidth];
+    });
+    assert.ok(cut.every((by) => by <= 0), `${name}: ${cut}`);
     await page.shot(`${folder}/flaws-${name}.png`);
-    await page.run(() => document.getElementById('verdict-more').scrollTo(0, 0));
+    await page.run(
+        () => document.querySelectorAll('#panels, #details').forEach((one) => one.scrollTo(0, 0))
+    );
     assert.deepEqual(await places(), before, name);
     await page.close();
   }

@@ -2,7 +2,7 @@
 // runner tests/page/page_test.mjs.
 import assert from 'node:assert/strict';
 import {execFileSync} from 'node:child_process';
-import {readFileSync, readdirSync, writeFileSync} from 'node:fs';
+import {readFileSync, readdirSync, rmSync, writeFileSync} from 'node:fs';
 import {join} from 'node:path';
 import {NO_PICKERS, act, clean, coloursAt, downloaded, drop, examples, fresh, isKept, isOpen, menu, said} from './page_hands.mjs';
 import {SIZES, SLACK, noise, ppmOf} from './page_trial.mjs';
@@ -140,7 +140,7 @@ export async function savedOfItsPicture({browser, url, folder}) {
   await downloaded(page, own, 'first-puzzle.png');
   await openedMeanwhile('assess', () => act(page, 'export-site'));
   await downloaded(page, own, 'first-site.zip');
-  assert.deepEqual(namesIn('first-site.zip'), ['first.ppm', 'first.cert', 'first.txt']);
+  assert.deepEqual(namesIn('first-site.zip'), ['first.ppm', 'first.ppm.cert', 'first.ppm.txt']);
   await openedMeanwhile('open', async () => {
     await page.press('Control+p');
     await page.until(() => document.querySelector('#print-all'), 5000 * SLACK);
@@ -196,8 +196,13 @@ export async function xml({browser, url, folder}) {
     return bench.stroke(['pin 1 4', 'pin 2 1']);
   });
   await act(page, 'export-xml');
-  const {content} = await downloaded(page, own, '.xml');
+  const {name, content} = await downloaded(page, own, '.xml');
   assert.match(content.toString(), /<title>&lt;img/);
+  rmSync(join(own, name));
+  await page.run(() => bench.become((doc) => ({...doc, about: {}})));
+  await act(page, 'export-xml');
+  const {content: untitled} = await downloaded(page, own, '.xml');
+  assert.match(untitled.toString(), /<title>flower<\/title>/, 'the name of the file');
   const before = await trial.state();
   await trial.load();
   await drop(page, own, 'flower.xml', content);
@@ -217,7 +222,11 @@ export async function xml({browser, url, folder}) {
   assert.equal(
       await page.run(() => window.bad ?? document.querySelectorAll('#print img').length), 0
   );
-  assert.match(await trial.text('#print text'), /^<img/);
+  assert.ok(await page.run(
+      () => [...document.querySelectorAll('#print text')].some(
+          ({textContent}) => textContent.startsWith('<img')
+      )
+  ));
   await page.close();
 }
 
@@ -244,9 +253,11 @@ export async function exportsAndPrint({browser, url, folder}) {
   const site = execFileSync(
                    'unzip', ['-Z1', join(own, 'key-site.zip')], {encoding: 'utf8'}
   ).trim().split('\n');
-  assert.deepEqual(site, ['key.ppm', 'key.cert', 'key.txt', 'key.givens']);
+  assert.deepEqual(site, ['key.ppm', 'key.ppm.cert', 'key.ppm.txt', 'key.ppm.givens']);
   assert.equal(
-      execFileSync('unzip', ['-p', join(own, 'key-site.zip'), 'key.givens'], {encoding: 'utf8'}),
+      execFileSync(
+          'unzip', ['-p', join(own, 'key-site.zip'), 'key.ppm.givens'], {encoding: 'utf8'}
+      ),
       'given 1 3\ngiven 1 5\n'
   );
   await menu(page, 'export-cells');
@@ -306,9 +317,10 @@ export async function exportsAndPrint({browser, url, folder}) {
   );
   const night = (...words) => execFileSync('unzip', [...words], {cwd: own, encoding: 'utf8'});
   assert.equal(
-      night('-Z1', 'night-site.zip'), 'night.ppm\nnight.cert\nnight.txt\nnight.background\n'
+      night('-Z1', 'night-site.zip'),
+      'night.ppm\nnight.ppm.cert\nnight.ppm.txt\nnight.ppm.background\n'
   );
-  assert.equal(night('-p', 'night-site.zip', 'night.background'), '0,0,40\n');
+  assert.equal(night('-p', 'night-site.zip', 'night.ppm.background'), '0,0,40\n');
   for (const zip of ['night-site.zip', 'key-site.zip']) {  // dropped again, they are these
                                                            // pictures, and all of them is read
     await drop(page, own, zip, readFileSync(join(own, zip)));
@@ -458,7 +470,7 @@ export async function pdfReadBack({browser, url, folder}) {
   await printWith(page, {'print-show': 'letters', 'print-paper': 'a5', 'print-margin': '15'});
   const [puzzle, solution, ...others] = await pdfOf(page, own, 'letters.pdf');
   assert.deepEqual([puzzle.size, solution.size, others.length], [[148, 210], [148, 210], 0]);
-  assert.match(puzzle.text, /Three rows\n\s*6 by 3, by A Writer/);
+  assert.match(puzzle.text, /Puzzle\n\s*6 by 3, by A Writer/);
   // Clues of rows from left to right, and of columns from top to bottom, as the picture has them.
   const isClue = ({text}) => /^\d+[abc]$/.test(text);
   const lines = (all, across) => Object.values(
@@ -472,8 +484,8 @@ export async function pdfReadBack({browser, url, folder}) {
       )
   );
   const clues = puzzle.words.filter(isClue);
-  const top =
-      Math.max(...clues.map(({x}) => x)) - 1;  // the clues of columns lie right of those of rows
+  // the clues of columns lie right of those of rows
+  const top = Math.max(...clues.map(({x}) => x)) - 1;
   const left = Math.min(
       ...clues.filter(({y}) => y < Math.min(...clues.map((one) => one.y)) + 1).map(({x}) => x)
   );
@@ -763,7 +775,7 @@ const BOOK = {
 
 /**
  * Pictures of the library are printed with the one at hand, in the order of their names: two a
- * sheet, with letters, solutions behind. The PDF is read back.
+ * sheet, with letters, under their numbers; solutions with titles behind. The PDF is read back.
  */
 export async function printPoint(hands, {page, own}) {
   for (const [name, picture] of Object.entries(BOOK)) {
@@ -805,19 +817,18 @@ export async function printPoint(hands, {page, own}) {
   await page.until(() => window.isPrinted, 5000 * SLACK);
   const sheets = await pdfOf(page, own, 'book.pdf');
   assert.deepEqual(sheets.map(({size}) => size), Array(sheets.length).fill([148, 210]));
-  const titles = sheets.map(({text}) => text.match(/(first|second|third)(: solution)?/g));
-  assert.deepEqual(titles.slice(0, 2), [['first', 'second'], ['third']]);
+  const heads =
+      sheets.map(({text}) => text.match(/(Puzzle|Solution) \d(: \w+)?|first|second|third/g));
+  assert.deepEqual(heads.slice(0, 2), [['Puzzle 1', 'Puzzle 2'], ['Puzzle 3']]);
   assert.deepEqual(
-      titles.slice(2).flat(), ['first: solution', 'second: solution', 'third: solution']
+      heads.slice(2).flat(), ['Solution 1: first', 'Solution 2: second', 'Solution 3: third']
   );
-  // By hand: those of rows, and then of columns.
+  // By hand: those of rows, and then of columns, of the second; the others have one colour, and so
+  // no letters.
   const clues = sheets.slice(
                           0, 2
   ).map(({words}) => words.map(({text}) => text).filter((text) => /^\d+[ab]$/.test(text)).sort());
-  assert.deepEqual(clues, [
-    ['2a', '2a', '1a', '2a', '1a', '1a', '1b', '2b', '1a', '1b', '1b', '1b'].sort(),
-    ['1a', '1a', '1a', '1a', '2a'].sort()
-  ]);
+  assert.deepEqual(clues, [['1a', '1b', '2b', '1a', '1b', '1b', '1b'].sort(), []]);
   for (const [at, {text}] of sheets.entries())
     assert.match(text, new RegExp(`${at + 1} ?/ ?${sheets.length}`));
 }
@@ -930,6 +941,7 @@ export async function othersPoint(hands, {page, trial, own}) {
         return ids;
       }),
       [
+        'publish',
         'export-xml',
         'export-site',
         'print',

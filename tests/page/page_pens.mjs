@@ -22,18 +22,15 @@ const strokes = (trial) => trial.state().then((state) => state.strokes[0]);
 
 // Chooses a symmetry: by keys m goes to the next one.
 async function symmetry(hands, kind) {
-  if (!hands.byKeys)
-    await hands.choose('#symmetry', kind);
-  else
+  if (!hands.byKeys) {
+    await hands.press('#symmetry');
+    await hands.press(`[data-symmetry="${kind}"]`);
+  } else
     for (let step = 0;
          step < 6 && await hands.page.run((wanted) => tools.symmetry !== wanted, kind);
          step++)
       await hands.page.press('m');
-  await hands.page.until(
-      (wanted) => tools.symmetry === wanted && document.getElementById('symmetry').value === wanted,
-      2000 * SLACK,
-      kind
-  );
+  await hands.page.until((wanted) => tools.symmetry === wanted, 2000 * SLACK, kind);
 }
 
 /** Pens that draw symmetric: each stroke is one, and one undo takes it back. */
@@ -150,7 +147,10 @@ export async function wandPoint(hands, {page, trial}) {
   assert.equal(await strokes(trial), 1, 'in one stroke');
   await undo(hands);
   await hands.menu('edit', 'wand-adds');  // for fingers, which have no Shift
-  assert.equal(await trial.text('[data-tool="wand"] span'), 'Wand +');
+  assert.equal(
+      await page.run(() => document.querySelector('[data-tool="wand"]').getAttribute('aria-label')),
+      'Wand adds to the selection'
+  );
   assert.ok(
       await page.run(() => {
         const {left, right} = document.querySelector('[data-tool="wand"]').getBoundingClientRect();
@@ -339,8 +339,7 @@ export async function quickPens({browser, url, folder}) {
   await page.press('p', '1');
   const plain = await moves();
   await page.run(() => {
-    document.getElementById('symmetry').value = 'both';
-    document.getElementById('symmetry').dispatchEvent(new Event('change'));
+    while (tools.symmetry !== 'both') runAction('symmetry-next');
   });
   const both = await moves();
   console.log(

@@ -205,8 +205,7 @@ export async function numbersAreToldOf({browser, url, folder}) {
 
 /**
  * On a tablet fingers get what phones have, 44 px, and the header with the name of the file is
- * within the window; keys stand apart from the tools' names and within their buttons, the panel
- * does not scroll sideways, and the first proposals are seen whole.
+ * within the window; the panel does not scroll sideways, and the first proposals are seen whole.
  */
 export async function tabletForFingers({browser, url, folder}) {
   for (const [language, width, height] of [
@@ -251,11 +250,11 @@ export async function tabletForFingers({browser, url, folder}) {
     await page.run(() => {
       runAction('fix');
     });
-    await page.until(() => document.querySelector('#fix-list button .use'), 10000 * SLACK);
+    await page.until(() => document.querySelector('#fix-list button'), 10000 * SLACK);
     await page.shot(`${folder}/tablet-fix-${language}-${width}.png`);
     assert.deepEqual(await small(`#fix ${pressed}`), [], `${where}: proposals`);
     const seen = await page.run(
-        () => document.getElementById('fix').getBoundingClientRect().bottom -
+        () => document.getElementById('fix-list').getBoundingClientRect().bottom -
             document.querySelector('#fix-list button').getBoundingClientRect().bottom
     );
     assert.ok(seen >= 0, `${where}: ${- seen} px of the first proposal are below the panel`);
@@ -272,42 +271,13 @@ export async function tabletForFingers({browser, url, folder}) {
     await page.until(() => document.querySelector('dialog[open] #print-show'), 5000 * SLACK);
     assert.deepEqual(await small(`dialog[open] ${pressed}`), [], where);
     await page.press('Escape');
-    const [over, wide, title, gaps, within] = await page.run(() => {
-      const one = document.getElementById('title');
-      const away = [...document.querySelectorAll('#tool-row button')].map((button) => {
-        const text = document.createRange();
-        text.selectNodeContents(button.querySelector('span'));
-        return button.querySelector('kbd').getBoundingClientRect().left -
-            text.getBoundingClientRect().right;
-      });
-      return [
-        document.querySelector('header').scrollWidth - innerWidth,
-        one.getBoundingClientRect().right - innerWidth,
-        one.getBoundingClientRect().width,
-        Math.min(...away),
-        Math.min(...[...document.querySelectorAll('#tool-row button')].map(
-            (button) => button.getBoundingClientRect().right -
-                button.querySelector('kbd').getBoundingClientRect().right
-        ))
-      ];
+    const [over, wide, title] = await page.run(() => {
+      const {right, width} = document.getElementById('title').getBoundingClientRect();
+      return [document.querySelector('header').scrollWidth - innerWidth, right - innerWidth, width];
     });
     assert.ok(over <= 0 && wide <= 0 && title > 40, `${where}: ${[over, wide, title]}`);
-    assert.ok(
-        gaps >= 4 && within >= 4,
-        `${where}: ${gaps} px between a tool and its key, ${within} px to the edge`
-    );
     await trial.example('heart');
-    await page.until(() => !document.getElementById('publish-do').hidden, 10000 * SLACK);
-    assert.deepEqual(await small('#fit-row button'), [], where);
-    assert.deepEqual(
-        await page.run(
-            () => [document.getElementById('fit-row')].map(
-                (row) => row.scrollHeight - row.clientHeight
-            )
-        ),
-        [0],
-        `${where}: what leads to its publication is seen whole`
-    );
+    await trial.judged();
     await page.shot(`${folder}/tablet-${language}-${width}.png`);
     assert.deepEqual(page.faults, []);
     await page.close();
@@ -316,8 +286,7 @@ export async function tabletForFingers({browser, url, folder}) {
 
 /**
  * The header of phones is within the window. The verdict's line: what is told beside the verdict
- * is whole, no button breaks, is cut or stands alone in a row, and what opens the colours lies
- * beside their rings.
+ * is whole, and no button breaks, is cut or stands alone in a row.
  */
 export async function verdictLineOnPhones({browser, url, folder}) {
   for (const language of ['en', 'de', 'fr']) {
@@ -332,8 +301,8 @@ export async function verdictLineOnPhones({browser, url, folder}) {
       );
       assert.equal(await trial.judged(), 'ambiguous');
       const look = () => page.run(() => {
-        const line = document.getElementById('verdict-line').getBoundingClientRect();
-        const [texts, buttons] = ['#verdict, #verdict-short', '#verdict-line button'].map(
+        const line = document.getElementById('audit').getBoundingClientRect();
+        const [texts, buttons] = ['#verdict, #verdict-short', '#audit button'].map(
             (all) => [...document.querySelectorAll(all)].filter((one) => one.checkVisibility())
         );
         const edges = buttons.map((one) => one.getBoundingClientRect());
@@ -347,9 +316,6 @@ export async function verdictLineOnPhones({browser, url, folder}) {
                       bottom > edge.top
               );
         };
-        const [chosen, opens] = ['#palette [aria-checked="true"]', '#colours-open'].map(
-            (one) => document.querySelector(one).getBoundingClientRect()
-        );
         return {
           texts: texts.map((one) => one.id),
           cut: texts.filter(isCut).map((one) => one.id),
@@ -358,8 +324,7 @@ export async function verdictLineOnPhones({browser, url, folder}) {
                        ({right, height}) =>
                            right > Math.min(line.right, innerWidth) + 0.5 || height > 50
                    )
-                   .length,
-          ring: Math.max(opens.top - chosen.bottom, opens.left - chosen.right)
+                   .length
         };
       });
       const [over, least, high] = await page.run(
@@ -368,30 +333,15 @@ export async function verdictLineOnPhones({browser, url, folder}) {
                Math.min(...[...document.querySelectorAll('header button')]
                             .filter((one) => one.checkVisibility())
                             .map((one) => one.offsetWidth)),
-               document.getElementById('verdict-line').offsetHeight]
+               document.getElementById('audit').offsetHeight]
       );
       assert.ok(
           over <= 0 && least >= (size[0] === 320 ? 36 : 44),
           `${where}: the header is ${over} px too wide, its least button ${least} px`
       );
-      assert.ok(
-          high <= (size[0] > 600 && language === 'de' ? 68 : 50),
-          `${where}: the line is ${high} px high`
-      );
-      const {ring, ...found} = await look();
+      assert.ok(high <= (size[0] > 600 ? 132 : 56), `${where}: the line is ${high} px high`);
       await page.shot(`${folder}/line-${language}-${size[0]}.png`);
-      const whole = {
-        texts: size[0] < 601 ? ['verdict', 'verdict-short'] : ['verdict'],
-        cut: [],
-        out: 0
-      };
-      assert.deepEqual(found, whole, where);
-      await page.tap('#verdict-open');
-      const {ring: _, ...opened} = await look();
-      assert.deepEqual(opened, whole, `${where}: More`);
-      assert.ok(
-          ring >= 4.5, `${where}: ${ring} px between the chosen colour and what opens the colours`
-      );
+      assert.deepEqual(await look(), {texts: ['verdict', 'verdict-short'], cut: [], out: 0}, where);
       assert.deepEqual(page.faults, []);
       await page.close();
     }
@@ -713,29 +663,42 @@ export async function solutionIsAskedFor({browser, url, folder}) {
 }
 
 /**
- * The guide tells fingers of no keys, in each language, and of no place that a phone does not
- * have; a mouse is told of them.
+ * The tour is five marks on the balloon, each within the window and beside what it is about, in
+ * each language; it tells of no keys, and Escape ends it.
  */
-export async function guideForFingers({browser, url, folder}) {
-  for (const [language, opens] of [
-           ['en', /when you open it or drop it/],
-           ['de', /wenn Sie sie öffnen oder/],
-           ['fr', /quand vous l’ouvrez ou/]]) {
+export async function tourOfTheBalloon({browser, url, folder}) {
+  for (const language of ['en', 'de', 'fr']) {
     for (const size of [SIZES.phone, SIZES.small]) {
-      const {page, trial} = await fresh(browser, url, folder, `guide-${language}-${size.width}`, {
+      const where = `${language}, ${size.width}`;
+      const {page, trial} = await fresh(browser, url, folder, `tour-${language}-${size.width}`, {
         size,
         before: `try { localStorage.setItem('nonobench-language', '${language}'); } catch {}`
       });
       await page.run(() => {
-        runAction('guide');
+        runAction('tour');
       });
-      await page.until(() => document.querySelector('.help ol'), 3000 * SLACK);
-      const told = await trial.text('.help ol');
-      const keys = told.match(/\([a-z](\s[^)]*)?\)/g) ?? [];
-      assert.equal(keys.length, size.touch ? 0 : 5, `${language}: ${keys}`);
-      assert.doesNotMatch(told, /on the right|steht rechts|de droite/);
-      assert.match(told, opens);
-      assert.ok(told.includes('(GIMP, JASC'), 'other brackets stay');
+      await page.until(() => document.querySelector('#tour:popover-open'), 5000 * SLACK);
+      assert.equal(await trial.judged(), 'ambiguous');
+      const texts = new Set();
+      for (let mark = 1; mark <= 5; mark++) {
+        const [text, isIn, isMarked] = await page.run(() => {
+          const {left, top, right, bottom} =
+              document.getElementById('tour').getBoundingClientRect();
+          return [
+            document.getElementById('tour-text').textContent,
+            left >= 0 && top >= 0 && right <= innerWidth && bottom <= innerHeight,
+            document.querySelectorAll('.toured').length
+          ];
+        });
+        assert.deepEqual([isIn, isMarked], [true, 1], `${where}: mark ${mark}`);
+        assert.doesNotMatch(text, /\([a-z]\)|Ctrl|Strg/);
+        texts.add(text);
+        if (mark < 5) await page.press('Enter');
+      }
+      assert.equal(texts.size, 5, where);
+      await page.shot(`${folder}/tour-${language}-${size.width}.png`);
+      await page.press('Escape');
+      assert.equal(await page.run(() => document.querySelector('#tour, .toured')), null, where);
       assert.deepEqual(page.faults, []);
       await page.close();
     }
@@ -918,7 +881,7 @@ export async function fingersAreTold({browser, url, folder}) {
   const wanted = [
     /^Tap “Choose files …”\.(?!.*Ctrl)/,
     /Two fingers move the picture/,
-    /Two fingers move the view/,
+    /A certificate proves/,
     /Tap a colour to keep it/
   ];
   for (const [at, text] of wanted.entries()) assert.match(told[at], text);

@@ -18,7 +18,7 @@ const facts = (page, text, ms = 10000) => page.until(
     text
 );
 const judged = (page) => page.until(
-    () => /^(✓ Unique|≠ Ambiguous|Not decided)/.test(document.querySelector('#import-verdict'
+    () => /^(Unique|Ambiguous|Not decided)/.test(document.querySelector('#import-verdict'
     ).textContent),
     20000 * SLACK
 );
@@ -692,7 +692,7 @@ export async function checkOfCertificate({browser, url, folder}) {
   assert.ok(await page.run(() => kept[0].isEnded));
   await check(2);
   await page.run(() => kept[1].go());
-  assert.equal(await told(), '✓ “a.cert”: It proves that this picture is the only solution.');
+  assert.equal(await told(), '“a.cert”: It proves that this picture is the only solution.');
   assert.equal(
       await page.run(
           () =>

@@ -38,10 +38,18 @@ const COLOURS = Object.fromEntries([...'.abcdefghij'].map(
 const isNarrow = (page) =>
     page.run(() => document.getElementById('verdict-open').checkVisibility());
 const isMoreOpen = (page) =>
-    page.run(() => document.getElementById('audit').classList.contains('open'));
+    page.run(() => document.getElementById('panels').classList.contains('open'));
 const more = async (hands, is) => {
   if (await isNarrow(hands.page) && await isMoreOpen(hands.page) !== is)
     await hands.press('#verdict-open');
+};
+// On a phone proposals stand where palette and rail do.
+const aside = async (hands) => {
+  await more(hands, false);
+  if (await isNarrow(hands.page)) await hands.press('#fix-close');
+};
+const fixAgain = async (hands) => {
+  if (await isNarrow(hands.page)) await hands.press('#verdict-do [data-action="fix"]');
 };
 const listed = async (page) => {
   await page.until(() => document.querySelectorAll('#fix-list button').length > 0, 20000 * SLACK);
@@ -114,12 +122,13 @@ export async function limitsPoint(hands) {
   await fixOf(hands, PAIR);
   await opened(hands);
   await hands.choose('#fix-mirror', '');
-  await more(hands, false);
+  await aside(hands);
   await hands.tool('lock');
   await hands.stroke([1, 1], [1, 2]);
   await page.until(
       () => [...bench.state.locks].sort((one, other) => one - other).join() === '0,1', 3000 * SLACK
   );
+  await fixAgain(hands);
   assert.match(await trial.text('#fix-locks'), /^Locked: 2 cells, 0 colours/);
   assert.deepEqual(
       (await firstRepair(hands, PAIR)).places,
@@ -130,28 +139,28 @@ export async function limitsPoint(hands) {
   await hands.press('#fix-unlock');
   await page.until(() => bench.state.locks.size === 0, 3000 * SLACK);
 
-  await more(hands, false);
+  await aside(hands);
   await hands.tool('select');
   await hands.stroke([1, 1], [1, 3]);
+  await fixAgain(hands);
   await opened(hands);
   await hands.press('#fix-lock');
   await page.until(() => bench.state.locks.size === 33, 3000 * SLACK);
   assert.deepEqual((await firstRepair(hands, PAIR)).places, [1], 'in the selection alone');
 
   await fixOf(hands, TWO_COLOURS);
-  await more(hands, false);
+  await aside(hands);
   await hands.tool('pencil');
   await hands.colour('a');
-  if (await page.run(() => document.getElementById('colours-open').checkVisibility()))
-    await hands.press('#colours-open');
+  await hands.opens('#ink-locked');
   if (hands.byKeys) {
     await hands.tabTo('#ink-locked');
     await page.press(' ');
   } else
     await hands.press('#ink-locked');
   await page.until(() => bench.state.inks[1]?.locked === true, 3000 * SLACK);
-  if (await page.run(() => document.getElementById('colours-open').checkVisibility()))
-    await hands.press('#colours-open');
+  await page.press('Escape');
+  await fixAgain(hands);
   await hands.press('#fix-paint');
   await fixSaid(page, '^No repaint was found, and none of up to \\d cells exists\\.');
   assert.ok(
@@ -320,7 +329,34 @@ export async function mixedRepairs({trial, page}) {
   );
 }
 
-/** More than eight cells are told to be too loose a picture. */
+/** Proposals keep the symmetry of the pens where the picture has it, and say so by the goal. */
+export async function pensSymmetryKept({trial, page}) {
+  const kept = () => trial.text('#fix-symmetry');
+  await trial.open(ppmOf(MIRRORED), 'symmetric');
+  assert.equal(await trial.judged(), 'ambiguous');
+  await trial.action('fix');
+  assert.equal(await kept(), '');
+  await page.press('m');
+  await page.until(() => tools.symmetry === 'across', 3000 * SLACK);
+  assert.equal(await kept(), 'Symmetry: left and right the same.');
+  await page.click('#fix-paint');
+  await fixSaid(page, 'found');
+  const count = (await proposals(page)).filter((text) => /^\d+ cells?: /.test(text)).length;
+  assert.ok(count > 0);
+  for (let at = 0; at < count; at++) {
+    await page.run((one) => document.querySelectorAll('#fix-list button')[one].click(), at);
+    await page.until(() => bench.past.length === 1, 5000 * SLACK);
+    const after = await trial.picture();
+    assert.deepEqual(after, after.map((row) => [...row].reverse().join('')), `proposal ${at + 1}`);
+    await trial.press('Control+z');
+    await page.until(() => bench.past.length === 0, 5000 * SLACK);
+    await page.until(
+        (most) => document.querySelectorAll('#fix-list button').length >= most, 5000 * SLACK, count
+    );
+  }
+}
+
+/** Where each repair has more than eight cells, the page advises what fits the picture. */
 export async function looseIsSaid({trial, page}) {
   await trial.open(ppmOf(LOOSE, COLOURS), 'loose');
   assert.equal(await trial.judged(), 'ambiguous');
@@ -329,10 +365,23 @@ export async function looseIsSaid({trial, page}) {
   await fixSaid(page, 'found');
   assert.match(
       await trial.text('#fix-said'),
-      /More than 8 cells: the picture is too sparse, and a bolder threshold at import/
+      /All take more than 8 cells\. The picture is too sparse: more coloured cells, or larger areas/
   );
   const texts = await proposals(page);
   assert.match(texts[0], /^10 cells: /, texts.join('\n'));
+  const isOffered = () => page.run(() => document.getElementById('fix-adjust').checkVisibility());
+  assert.equal(await isOffered(), false, 'it was made of no image');
+  await page.run(() => {
+    actions.get('adjust').can = () => true;
+    actions.get('adjust').run = () => {
+      window.isAdjusted = true;
+    };
+  });
+  await page.click('#fix-paint');
+  await fixSaid(page, 'found');
+  assert.equal(await isOffered(), true);
+  await page.click('#fix-adjust');
+  assert.equal(await page.run(() => window.isAdjusted), true);
 }
 
 /** The grade's text stands whole, in each size. */
@@ -486,6 +535,9 @@ export async function tutorialSteps({browser, url, folder}) {
       ),
       'Place 1'
   );
+  // As docs/TUTORIAL.md tells it.
+  assert.equal((await proposals(page))[0], '2 cells: row 2, column 5; row 2, column 12');
+  assert.equal(await trial.text('#fix-list li [data-where]'), 'r2 c5 …');
   for (const [section, corner, rest] of [
            [1, 'row 3, column 4', '...aaaaaaaaa....'],
            [0, 'row 3, column 13', '...aaaaaaaaaa...']]) {

@@ -73,7 +73,7 @@ const givensText = (text) => [...readGivens(text, {rows: 3, columns: 4})]
 // What a background comes to for a first pixel of 9,8,7 with the largest samples that there are.
 function groundText(text, wanted) {
   const ground = readGround(text);
-  const names = {'9,8,7': 'corner', '255,255,255': 'white'};
+  const names = {'255,255,255': 'white'};
   const triple = ground({data: Uint8ClampedArray.of(9, 8, 7, 255)}, 65535).join();
   if (wanted.includes(','))
     return triple === wanted.split(',').map((sample) => Math.round((sample * 255) / 65535)).join() ?
@@ -101,87 +101,66 @@ test('lines of givens end with LF, and the line that is wrong is named', () => {
 test('a background is in the samples of its picture', () => {
   const white = {data: Uint8ClampedArray.of(9, 8, 7, 0)};
   assert.deepEqual(readGround('1,2,15')(white, 15), [17, 34, 255]);  // 255 / 15 = 17
-  assert.deepEqual(
-      readGround('corner')(white, 255), [255, 255, 255]
-  );  // what is transparent has no colour
-  assert.deepEqual(
-      [127, 128].map(
-          (opacity) =>
-              readGround('corner')({data: Uint8ClampedArray.of(9, 8, 7, opacity)}, 255).join()
-      ),
-      ['255,255,255', '9,8,7']
-  );
+  assert.throws(() => readGround('corner'), FileFault);
   assert.throws(() => readGround('0,0,16')(white, 15), /above 15/);
   for (const sign of ['\u00a0', '\u0085', '\u001c'])
     assert.throws(() => readGround(`white${sign}`), FileFault);  // no white space of ASCII
 });
 
-test('what goes with a picture, by its name', () => {
-  const names = (files) => grouped(files.map((name) => fileOf(name)))
-                               .map(
-                                   ({file, givens, background, beside, fault}) =>
-                                       [file.name,
-                                        givens?.name,
-                                        background?.name,
-                                        beside.map((one) => one.name),
-                                        Boolean(fault)]
-                               );
-  assert.deepEqual(names(['a.png', 'a.givens', 'a.background', 'a.cert', 'a.proof']), [
-    ['a.png', 'a.givens', 'a.background', ['a.givens', 'a.background', 'a.cert', 'a.proof'], false]
-  ]);
-  assert.deepEqual(names(['a.b.ppm', 'a.b.givens', 'a.givens']), [
-    ['a.b.ppm', 'a.b.givens', undefined, ['a.b.givens'], false],
-    ['a.givens', undefined, undefined, [], true]
-  ]);
-  // NAME.png.givens comes before NAME.givens, and small letters before capital ones, as for
-  // nonobench-audit.
-  assert.deepEqual(
-      names(['a.png', 'a.ppm', 'a.givens', 'a.png.GIVENS', 'a.ppm.BACKGROUND', 'a.ppm.background']),
-      [
-        ['a.png', 'a.png.GIVENS', undefined, ['a.png.GIVENS'], false],
-        ['a.ppm', 'a.givens', 'a.ppm.background', ['a.givens', 'a.ppm.background'], false],
-        ['a.ppm.BACKGROUND', undefined, undefined, [], true],
-      ]
+// The cases of a table of folders, each as its names and who gets what: `NAME: ENDING ..` for each
+// picture that something goes with, and `stray NAME`.
+const namesOf = () => read('tests/cases/names.txt')
+                          .toString()
+                          .split('\n')
+                          .filter((line) => line && !line.startsWith('#'))
+                          .join('\n')
+                          .split(/^folder /m)
+                          .slice(1)
+                          .map((text) => text.trim().split('\n'));
+
+test('what goes with a picture, by its name, as for nonobench-audit', () => {
+  const cases = namesOf();
+  for (const [names, ...wanted] of cases) {
+    const lines = grouped(names.split(' ').map((name) => fileOf(name))).flatMap((unit) => {
+      const {file: {name}, beside, fault} = unit;
+      const got = ['cert', 'givens', 'background'].filter(
+          (ending) => beside.some((one) => one.name === `${name}.${ending}`)
+      );
+      if (fault) return [`stray ${name}`];
+      return got.length ? [`${name}: ${got.join(' ')}`] : [];
+    });
+    assert.deepEqual(lines.sort(), wanted.sort(), names);
+  }
+  assert.ok(cases.length > 10);
+});
+
+test('a file that goes with no picture says how it would be called', () => {
+  const [unit] = grouped([fileOf('heart.givens')]);
+  assert.equal(
+      unit.fault,
+      'no picture here goes with it: what goes with heart.ppm is called heart.ppm.givens'
   );
-  assert.deepEqual(names(['a.png', 'a.png.xml', 'a.givens', 'a.png.givens']), [
-    ['a.png', 'a.givens', undefined, ['a.givens'], false],
-    ['a.png.xml', 'a.png.givens', undefined, ['a.png.givens'], false]
-  ]);
-  // An audit does not know NAME.png.jpg: what goes with NAME.png stays its own.
-  assert.deepEqual(names(['a.png', 'a.png.jpg', 'a.png.givens']), [
-    ['a.png', 'a.png.givens', undefined, ['a.png.givens'], false],
-    ['a.png.jpg', undefined, undefined, [], false]
-  ]);
-  // Those of another name, or of a file that is no picture, are alone.
-  assert.deepEqual(names(['a.txt', 'a.givens', 'A.background', 'b.cert']), [
-    ['a.txt', undefined, undefined, [], false],
-    ...['a.givens', 'A.background', 'b.cert'].map((name) => [name, undefined, undefined, [], true])
-  ]);
-  assert.deepEqual(
-      names(['Ä 1.PNG', 'Ä 1.GIVENS']),
-      [['Ä 1.PNG', 'Ä 1.GIVENS', undefined, ['Ä 1.GIVENS'], false]]
-  );
-  assert.deepEqual(names(['a.png', 'a.GIVENS', 'a.Givens', 'a.Cert']), [
-    ['a.png', 'a.Givens', undefined, ['a.Givens', 'a.Cert'], false],
-    ['a.GIVENS', undefined, undefined, [], true]
-  ]);
-  // The puzzles of a set have certificates of their own.
-  assert.deepEqual(names(['set.Xml', 'set.2.cert', 'set.Xml.3.proof', 'set.givens', 'no.2.cert']), [
-    ['set.Xml', 'set.givens', undefined, ['set.givens'], false],
-    ['no.2.cert', undefined, undefined, [], true]
-  ]);
-  assert.deepEqual(grouped([fileOf('a.png'), fileOf('a.cert')]).map(hasCertificate), [true]);
-  assert.deepEqual(grouped([fileOf('a.png'), fileOf('a.givens')]).map(hasCertificate), [false]);
+});
+
+test('what the engine said of a picture is no file of its own beside it', () => {
+  const names = (...files) => grouped(files.map((name) => fileOf(name))).map(({file}) => file.name);
+  assert.deepEqual(names('a.ppm', 'a.ppm.txt'), ['a.ppm']);
+  assert.deepEqual(names('a.ppm', 'a.txt', 'b.ppm.txt'), ['a.ppm', 'a.txt', 'b.ppm.txt']);
+});
+
+test('whether a certificate goes with a picture', () => {
+  const has = (...files) => grouped(files.map((name) => fileOf(name))).map(hasCertificate);
+  assert.deepEqual(has('a.png', 'a.png.cert'), [true]);
+  assert.deepEqual(has('a.png', 'a.png.givens'), [false]);
 });
 
 test('files of one name out of several folders: what goes together is not known', async () => {
-  const both = grouped([fileOf('a.png'), fileOf('a.png'), fileOf('a.givens')]);
+  const both = grouped([fileOf('a.png'), fileOf('a.png'), fileOf('a.png.givens')]);
   assert.equal(both.length, 2);
   for (const unit of both) await assert.rejects(docsOfUnit(unit), /several files have its name/);
-  const lists = grouped([fileOf('a.png'), fileOf('a.givens'), fileOf('a.givens')]);
+  const lists = grouped([fileOf('a.png'), fileOf('a.png.givens'), fileOf('a.png.givens')]);
   assert.deepEqual(
-      lists.map(({file, fault}) => [file.name, /several/.test(fault)]),
-      [['a.png', true], ['a.givens', false]]
+      lists.map(({file, fault}) => [file.name, /several/.test(fault)]), [['a.png', true]]
   );
   assert.deepEqual(
       grouped([fileOf('a.png'), fileOf('a.png')]).map(({fault}) => fault), ['', '']
@@ -191,68 +170,66 @@ test('files of one name out of several folders: what goes together is not known'
 test('many files of two names are no work', () => {
   const from = process.cpuUsage();
   const units =
-      grouped(Array.from({length: 20000}, (_, at) => fileOf(at % 2 ? 'a.givens' : 'a.ppm')));
+      grouped(Array.from({length: 20000}, (_, at) => fileOf(at % 2 ? 'a.ppm.givens' : 'a.ppm')));
   assert.ok(units.every(({fault}) => fault) && process.cpuUsage(from).user < 10e6);
 });
 
 test('givens and a background beside a picture', async () => {
-  const doc = await docOf({'a.ppm': TWO_WAYS, 'a.givens': 'given 1 1\n'});
+  const doc = await docOf({'a.ppm': TWO_WAYS, 'a.ppm.givens': 'given 1 1\n'});
   assert.deepEqual(
       [doc.colours, doc.picture, givensOf(doc)], [[[255, 255, 255], [0, 0, 0]], ['a.', '.a'], [0]]
   );
-  const night = await docOf({'a.ppm': TWO_WAYS, 'a.background': '0,0,0\n'});
+  const night = await docOf({'a.ppm': TWO_WAYS, 'a.ppm.background': '0,0,0\n'});
   assert.deepEqual(
       [night.colours, night.picture, givensOf(night)],
       [[[0, 0, 0], [255, 255, 255]], ['.a', 'a.'], []]
   );
-  const corner = await docOf({'a.ppm': TWO_WAYS, 'a.background': 'corner'});
-  assert.deepEqual(corner.picture, night.picture);
-  const small = await docOf({'a.ppm': 'P3 2 1 15 15 0 0 0 0 15', 'a.background': '15,0,0'});
+  const small = await docOf({'a.ppm': 'P3 2 1 15 15 0 0 0 0 15', 'a.ppm.background': '15,0,0'});
   assert.deepEqual([small.colours, small.picture], [[[255, 0, 0], [0, 0, 255]], ['.a']]);
   // Raw samples have the picture's own scale, too.
   const raw = await docOf({
     'a.ppm': new Uint8Array([...bytesOf('P6 2 1 15\n'), 15, 0, 0, 0, 0, 15]),
-    'a.background': '15,0,0'
+    'a.ppm.background': '15,0,0'
   });
   assert.deepEqual([raw.colours, raw.picture], [[[255, 0, 0], [0, 0, 255]], ['.a']]);
   // A background that no cell has.
-  const other = await docOf({'a.ppm': TWO_WAYS, 'a.background': '1,2,3'});
+  const other = await docOf({'a.ppm': TWO_WAYS, 'a.ppm.background': '1,2,3'});
   assert.deepEqual(
       [other.colours, other.picture], [[[1, 2, 3], [0, 0, 0], [255, 255, 255]], ['ab', 'ba']]
   );
-  const empty = await docOf({'a.ppm': TWO_WAYS, 'a.givens': ''});
+  const empty = await docOf({'a.ppm': TWO_WAYS, 'a.ppm.givens': ''});
   assert.deepEqual([empty.picture, givensOf(empty)], [['a.', '.a'], []]);
   await refused(
-      {'a.ppm': TWO_WAYS, 'a.givens': 'given 1 1\ngiven 1\n'},
-      /“a\.givens” could not be read: line 2 is not/
+      {'a.ppm': TWO_WAYS, 'a.ppm.givens': 'given 1 1\ngiven 1\n'},
+      /“a\.ppm\.givens” could not be read: line 2 is not/
   );
   await refused(
-      {'a.ppm': TWO_WAYS, 'a.givens': 'given 3 1\n'},
-      /“a\.givens” could not be read: row 3, column 1 is outside/
+      {'a.ppm': TWO_WAYS, 'a.ppm.givens': 'given 3 1\n'},
+      /“a\.ppm\.givens” could not be read: row 3, column 1 is outside/
   );
   await refused(
-      {'a.ppm': TWO_WAYS, 'a.background': 'blue'},
-      /“a\.background” could not be read: it is neither/
+      {'a.ppm': TWO_WAYS, 'a.ppm.background': 'blue'},
+      /“a\.ppm\.background” could not be read: it is neither/
   );
   await refused(
-      {'a.ppm': TWO_WAYS, 'a.background': ''},
-      /“a\.background” could not be read: it is neither/
+      {'a.ppm': TWO_WAYS, 'a.ppm.background': ''},
+      /“a\.ppm\.background” could not be read: it is neither/
   );
   await refused(
-      {'a.ppm': TWO_WAYS, 'a.background': '0,0,256'},
-      /“a\.background” could not be read: a number is above 255/
+      {'a.ppm': TWO_WAYS, 'a.ppm.background': '0,0,256'},
+      /“a\.ppm\.background” could not be read: a number is above 255/
   );
-  const unit = {file: fileOf('a.ppm', TWO_WAYS), givens: {name: 'a.givens', size: 16777217}};
+  const unit = {file: fileOf('a.ppm', TWO_WAYS), givens: {name: 'a.ppm.givens', size: 16777217}};
   await assert.rejects(
-      docsOfUnit(unit), /“a\.givens” could not be read: it has more than 16 MiB/
+      docsOfUnit(unit), /“a\.ppm\.givens” could not be read: it has more than 16 MiB/
   );
   const most = {
     file: fileOf('a.ppm', TWO_WAYS),
-    givens: {name: 'a.givens', size: 16777216, arrayBuffer: async () => bytesOf('given 1 2')}
+    givens: {name: 'a.ppm.givens', size: 16777216, arrayBuffer: async () => bytesOf('given 1 2')}
   };
   assert.deepEqual((await docsOfUnit(most)).docs.map(givensOf), [[1]]);
   await refused(
-      {'a.ppm': TWO_WAYS, 'a.givens': '\ufeffgiven 1 1\n'}, /line 1 is not/
+      {'a.ppm': TWO_WAYS, 'a.ppm.givens': '\ufeffgiven 1 1\n'}, /line 1 is not/
   );  // as for nonobench-audit
 });
 
@@ -275,11 +252,11 @@ test('what lies beside a picture of the page holds in place of its notes', async
       [alone.colours, alone.picture, givensOf(alone), alone.about.title],
       [doc.colours, doc.picture, [3], 'Moon']
   );
-  assert.deepEqual(givensOf(await as ({'a.givens': 'given 1 1\n'})), [0]);  // not those of both
-  assert.deepEqual(givensOf(await as ({'a.givens': ''})), []);
-  const same = await as ({'a.background': '0,0,40\n'});
+  assert.deepEqual(givensOf(await as ({'a.ppm.givens': 'given 1 1\n'})), [0]);  // not those of both
+  assert.deepEqual(givensOf(await as ({'a.ppm.givens': ''})), []);
+  const same = await as ({'a.ppm.background': '0,0,40\n'});
   assert.deepEqual([same.colours, same.inks[1].name, givensOf(same)], [doc.colours, 'star', [3]]);
-  const other = await as ({'a.background': '255,255,255'});
+  const other = await as ({'a.ppm.background': '255,255,255'});
   assert.deepEqual(
       [other.colours, other.picture, givensOf(other), other.about.title, [...other.locks]],
       [[[255, 255, 255], [0, 0, 40]], ['.a', 'a.'], [3], 'Moon', [1]]
@@ -306,16 +283,17 @@ test('givens beside XML hold in place of its own; another background is an error
   const xml = webpbnText(doc, clues);
   assert.deepEqual(givensOf(await docOf({'a.xml': xml})), [3]);
   assert.deepEqual(
-      givensOf(await docOf({'a.xml': xml, 'a.givens': 'given 1 1\n', 'a.background': '0,0,40'})),
+      givensOf(
+          await docOf({'a.xml': xml, 'a.xml.givens': 'given 1 1\n', 'a.xml.background': '0,0,40'})
+      ),
       [0]
   );
-  assert.deepEqual(givensOf(await docOf({'a.xml': xml, 'a.givens': ''})), []);
-  await refused({'a.xml': xml, 'a.background': 'white'}, /its own background is not that/);
-  await refused({'a.xml': xml, 'a.background': 'corner'}, /its own background is not that/);
+  assert.deepEqual(givensOf(await docOf({'a.xml': xml, 'a.xml.givens': ''})), []);
+  await refused({'a.xml': xml, 'a.xml.background': 'white'}, /its own background is not that/);
   // Which of two puzzles such a file is for is not known.
     const set = xml.replace('</puzzle>', `</puzzle>${/<puzzle[ >][^]*<\/puzzle>/.exec(xml)[0]}`);
-    const { docs, left } = await docsOfUnit(unitOf({ 'a.xml': set, 'a.givens': 'given 1 1\n', 'a.background': 'white' }));
-    assert.deepEqual([docs.map(givensOf), left.map(({ name }) => name)], [[[3], [3]], ['a.givens', 'a.background']]);
+    const { docs, left } = await docsOfUnit(unitOf({ 'a.xml': set, 'a.xml.givens': 'given 1 1\n', 'a.xml.background': 'white' }));
+    assert.deepEqual([docs.map(givensOf), left.map(({ name }) => name)], [[[3], [3]], ['a.xml.givens', 'a.xml.background']]);
 });
 
 // Puzzles of Web Paint-by-Number, by the rows of their solutions. The first cells of a damaged one have a sign of no colour.
@@ -333,16 +311,16 @@ test('of a set, a damaged puzzle is told in its place, and the others are read',
     }
     // That a puzzle is damaged does not tell for which one the givens are.
     const {docs, left} =
-        await docsOfUnit(unitOf({'a.xml': setOf(SOUND, DAMAGED), 'a.givens': 'given 1 1\n'}));
-    assert.deepEqual([givensOf(docs[0]), left.map(({name}) => name)], [[], ['a.givens']]);
+        await docsOfUnit(unitOf({'a.xml': setOf(SOUND, DAMAGED), 'a.xml.givens': 'given 1 1\n'}));
+    assert.deepEqual([givensOf(docs[0]), left.map(({name}) => name)], [[], ['a.xml.givens']]);
     await refused({'a.xml': setOf(DAMAGED)}, /'Y'/);
     const {docs: kept, unread, why} = await readArchive(writeZip([
       {name: 'x/set.xml', bytes: bytesOf(setOf(DAMAGED, SOUND, OTHER))},
-      {name: 'x/set.givens', bytes: bytesOf('given 1 1\n')}
+      {name: 'x/set.xml.givens', bytes: bytesOf('given 1 1\n')}
     ]));
     assert.deepEqual(
         [kept.map(({name, doc}) => [name, doc.picture.join('/'), givensOf(doc)]), unread],
-        [[['set 2', 'a./.a', []], ['set 3', 'aa/a.', []]], ['x/set.xml', 'x/set.givens']]
+        [[['set 2', 'a./.a', []], ['set 3', 'aa/a.', []]], ['x/set.xml', 'x/set.xml.givens']]
     );
     assert.match(why, /'Y'/);
 });
@@ -451,7 +429,7 @@ test('the examples, as they are published', { skip: needsModule.skip || waits('0
              await docOf(Object.fromEntries(names.map((name) => [name, read(`examples/${name}`)])))
          )).verdict;
     assert.equal(await verdict('given.ppm'), 'ambiguous');
-    assert.equal(await verdict('given.ppm', 'given.givens', 'given.cert'), 'unique');
+    assert.equal(await verdict('given.ppm', 'given.ppm.givens', 'given.ppm.cert'), 'unique');
     judge.end();
 });
 
@@ -464,7 +442,9 @@ test('a triple beside a picture counts as named, white too, and not beside a tex
       '<puzzle><color name="red" char="r">c80000</color><solution><image>|rr|</image></solution></puzzle>'
     ];
     for (const [text, wanted] of [['255,255,255', ['background']], ['200,0,0', ['blank']]]) {
-      assert.deepEqual(await flaws({'a.ppm': red, 'a.background': text, 'a.givens': ''}), wanted);
+      assert.deepEqual(
+          await flaws({'a.ppm': red, 'a.ppm.background': text, 'a.ppm.givens': ''}), wanted
+      );
     }
     const white = 'P3 2 1 9 9 9 9 0 0 0';
     for (const [picture, text] of [
@@ -473,14 +453,17 @@ test('a triple beside a picture counts as named, white too, and not beside a tex
              [ppmTextOf(await docOf({'a.xml': xml})), 'white'],
              [null, '255,255,255']]) {
       assert.deepEqual(
-          await flaws({...(picture ? {'a.ppm': picture} : {'a.xml': xml}), 'a.background': text}),
+          await flaws(
+              picture ? {'a.ppm': picture, 'a.ppm.background': text} :
+                        {'a.xml': xml, 'a.xml.background': text}
+          ),
           []
       );
     }
     const image = {width: 1, height: 1, data: Uint8ClampedArray.of(200, 0, 0, 255)};
     const imageDocs = async (file, bytes, ground) => [docByItself(image, await ground(image, 255))];
     const {docs} =
-        await docsOfUnit(unitOf({'a.png': '', 'a.background': '255,255,255'}), imageDocs);
+        await docsOfUnit(unitOf({'a.png': '', 'a.png.background': '255,255,255'}), imageDocs);
     assert.deepEqual((await judge.judge(docs[0])).flaws, [{kind: 'background', place: []}]);
     judge.end();
 });
@@ -500,9 +483,9 @@ function entryOf(name, content) {
 
 test('folders: the files of one do not go with those of another', async () => {
     const tree = {
-      b: {'a.ppm': TWO_WAYS, 'a.givens': 'given 1 1\n', '.hidden.ppm': TWO_WAYS},
+      b: {'a.ppm': TWO_WAYS, 'a.ppm.givens': 'given 1 1\n', '.hidden.ppm': TWO_WAYS},
       c: {'a.ppm': TWO_WAYS},
-      d: {'a.givens': 'given 2 2\n', 'b.cert': ''},
+      d: {'a.ppm.givens': 'given 2 2\n', 'b.cert': ''},
       '.git': {'x.ppm': TWO_WAYS},
       'z.ppm': TWO_WAYS
     };
@@ -510,7 +493,7 @@ test('folders: the files of one do not go with those of another', async () => {
         [
           entryOf('one', tree),
           null,
-          entryOf('one', {'a.ppm': TWO_WAYS, 'a.givens': 'given 1 2\n'}),
+          entryOf('one', {'a.ppm': TWO_WAYS, 'a.ppm.givens': 'given 1 2\n'}),
           null
         ],
         [null, fileOf('a.ppm', TWO_WAYS), null, fileOf('.no.ppm')]
@@ -523,7 +506,7 @@ test('folders: the files of one do not go with those of another', async () => {
       ['a.ppm', []],
       ['a.ppm', [0]],
       ['a.ppm', []],
-      ['a.givens', 'alone'],
+      ['a.ppm.givens', 'alone'],
       ['b.cert', 'alone'],
       ['z.ppm', []],
       ['a.ppm', [1]]
@@ -534,7 +517,7 @@ test('folders: their files in the order of names, each with the background besid
     const units = await unitsIn(
         [entryOf(
             'one',
-            {'b.ppm': TWO_WAYS, 'a.background': '0,0,0', 'c.ppm': TWO_WAYS, 'a.ppm': TWO_WAYS}
+            {'b.ppm': TWO_WAYS, 'a.ppm.background': '0,0,0', 'c.ppm': TWO_WAYS, 'a.ppm': TWO_WAYS}
         )],
         [null]
     );
@@ -546,20 +529,22 @@ test('folders: their files in the order of names, each with the background besid
     );
 });
 
-test('a folder that is called as a file beside a picture is opened, and the picture is refused, as nonobench-audit does', async () => {
+test('a folder that is called as a file beside a picture is a folder like any other', async () => {
     const units = await unitsIn(
         [entryOf('one', {
-          'a.givens': {'b.ppm': TWO_WAYS},
+          'a.ppm.givens': {'b.ppm': TWO_WAYS},
           'a.ppm': TWO_WAYS,
           'b.ppm': {'c.ppm': TWO_WAYS},
-          'b.cert': ''
+          'b.ppm.cert': ''
         })],
         [null]
     );
-    assert.deepEqual(
-        units.map(({file, fault}) => [file.name, Boolean(fault)]),
-        [['b.ppm', false], ['a.ppm', true], ['c.ppm', false], ['b.cert', true]]
-    );
+    assert.deepEqual(units.map(({file, givens, fault}) => [file.name, givens, Boolean(fault)]), [
+      ['a.ppm', undefined, false],
+      ['b.ppm', undefined, false],
+      ['c.ppm', undefined, false],
+      ['b.ppm.cert', undefined, true]
+    ]);
 });
 
 test('folders of many files: none is cut off from its picture', async () => {
@@ -567,13 +552,13 @@ test('folders of many files: none is cut off from its picture', async () => {
         Array
             .from(
                 {length: 2001},
-                (_, at) => [[`${at}.ppm`, TWO_WAYS], [`${at}.givens`, 'given 1 1\n']]
+                (_, at) => [[`${at}.ppm`, TWO_WAYS], [`${at}.ppm.givens`, 'given 1 1\n']]
             )
             .flat()
     );
     const units = await unitsIn([entryOf('many', many)], [null]);
     assert.equal(units.length, 2000);
-    assert.ok(units.every(({file, givens}) => givens.name === file.name.replace('ppm', 'givens')));
+    assert.ok(units.every(({file, givens}) => givens.name === `${file.name}.givens`));
 });
 
 test('a folder of 140,000 files, or with as many folders in it: 2,000 of them are looked at, and it can be stopped', { skip: long }, async () => {
@@ -623,9 +608,8 @@ test('the zip for a puzzle site, dropped again', async () => {
     const entry = (name, text) => ({name, bytes: bytesOf(text)});
     const pair = [
       entry('x/a.ppm', TWO_WAYS),
-      entry('x/a.cert', 'nonocert 1\n'),
-      entry('x/a.proof', 'nonolemma 1\n'),
-      entry('x/a.txt', 'unique\n')
+      entry('x/a.ppm.cert', 'nonocert 1\n'),
+      entry('x/a.ppm.txt', 'unique\n')
     ];
     const zipped = async (...files) => {
       const {docs, unread, why} = await readArchive(writeZip(files));
@@ -634,41 +618,42 @@ test('the zip for a puzzle site, dropped again', async () => {
     assert.deepEqual(
         await zipped(
             ...pair,
-            entry('x/a.givens', 'given 1 1\n'),
-            entry('x/a.background', '0,0,0\n'),
+            entry('x/a.ppm.givens', 'given 1 1\n'),
+            entry('x/a.ppm.background', '0,0,0\n'),
             entry('y/a.ppm', TWO_WAYS)
         ),
         [[['a', [0], '0,0,0'], ['a', [], '255,255,255']], [], '']
     );
+    assert.deepEqual(await zipped(...pair, entry('y/a.ppm.givens', 'given 1 1\n')), [
+      [['a', [], '255,255,255']],
+      ['y/a.ppm.givens'],
+      'no picture here goes with it: what goes with heart.ppm is called heart.ppm.givens'
+    ]);
     assert.deepEqual(
-        await zipped(...pair, entry('y/a.givens', 'given 1 1\n')),
-        [[['a', [], '255,255,255']], ['y/a.givens'], 'no picture here goes with it']
+        await zipped(...pair, entry('x/a.ppm.givens', '')), [[['a', [], '255,255,255']], [], '']
     );
-    assert.deepEqual(
-        await zipped(...pair, entry('x/a.givens', '')), [[['a', [], '255,255,255']], [], '']
-    );
-    const [docs, unread, why] = await zipped(...pair, entry('x/a.givens', 'given 9 9\n'));
+    const [docs, unread, why] = await zipped(...pair, entry('x/a.ppm.givens', 'given 9 9\n'));
     assert.deepEqual([docs, unread], [[], ['x/a.ppm']]);
-    assert.match(why, /“a\.givens” could not be read: row 9, column 9 is outside/);
+    assert.match(why, /“a\.ppm\.givens” could not be read: row 9, column 9 is outside/);
 });
 
 test('in an archive, what lies in another folder does not go with a picture', async () => {
     const entry = (name, text) => ({name, bytes: bytesOf(text)});
     const {docs, unread} = await readArchive(writeZip([
       entry('x/y/a.ppm', TWO_WAYS),
-      entry('x/z/a.givens', 'given 1 1\n'),
+      entry('x/z/a.ppm.givens', 'given 1 1\n'),
       entry('x/z/b.ppm', TWO_WAYS)
     ]));
     assert.deepEqual(
         [docs.map(({name, doc}) => [name, givensOf(doc)]), unread],
-        [[['a', []], ['b', []]], ['x/z/a.givens']]
+        [[['a', []], ['b', []]], ['x/z/a.ppm.givens']]
     );
 });
 
 test('in an archive, names that are no UTF-8 stay apart', async () => {
     const zip = writeZip([
       {name: '~.ppm', bytes: bytesOf(TWO_WAYS)},
-      {name: '#.givens', bytes: bytesOf('given 1 1\n')}
+      {name: '#.ppm.givens', bytes: bytesOf('given 1 1\n')}
     ]);
     const {docs, unread} =
         await readArchive(zip.map((byte) => ({0x7e: 0x84, 0x23: 0x94})[byte] ?? byte));

@@ -107,6 +107,35 @@ export async function playerPoint(hands, {page, trial}) {
   assert.deepEqual(await page.run(() => [bench.state.picture, bench.past.length]), [ONE_WAY, 0]);
 }
 
+/** The player, and the link that others play, offer only the colours that the puzzle has. */
+export async function unusedStay({browser, url, folder}) {
+  const {page, trial} = await fresh(browser, url, folder, 'unused');
+  await trial.open(ppmOf(['.bb', 'b..'], {'.': '255 255 255', b: '200 40 40'}), 'unused');
+  await page.run(() => bench.stroke(['colour add 0 0 0', 'colour add 40 80 200']));
+  await trial.settled();
+  assert.equal((await trial.state()).colours.length, 4);
+  const offered = () => page.run(
+      () => [...document.querySelectorAll('#play-palette button')].map(
+          ({dataset}) => dataset.letter
+      )
+  );
+  await page.run(() => runAction('play'));
+  await inPlay(page);
+  assert.deepEqual(await offered(), ['a', '.', '?']);
+  await page.press('c');
+  assert.equal(await page.run(() => play.letter), 'a');
+  await page.press('Escape');
+  const link = await fragment(page, 'play');
+  const whole = await fragment(page, 'edit');
+  await opened(page, whole);
+  assert.equal((await trial.state()).colours.length, 4, 'who edits gets the palette');
+  await page.goto('about:blank');
+  await page.goto(link);
+  await inPlay(page);
+  assert.equal(await page.run(() => play.state.colours.length), 2);
+  await page.close();
+}
+
 /** Another fragment in the same tab opens its puzzle; a damaged one says so and loses nothing. */
 export async function linkInTheSameTab({browser, url, folder}) {
   const {page, trial} = await fresh(browser, url, folder, 'same-tab');
@@ -447,17 +476,17 @@ export async function severalPoint(hands, {page, trial, own}) {
     ['heart.ppm', readFileSync(new URL('heart.ppm', examples))],
     ['notes.txt', 'nothing to read\n'],
     ['spot.ppm', ppmOf(TWO_WAYS)],
-    ['spot.givens', 'given 1 2\n'],
-    ['spot.cert', 'nonocert 1\n'],
+    ['spot.ppm.givens', 'given 1 2\n'],
+    ['spot.ppm.cert', 'nonocert 1\n'],
     ['night.ppm', ppmOf(TWO_WAYS)],
-    ['night.background', '0,0,0\n'],
+    ['night.ppm.background', '0,0,0\n'],
     ['art.png', await pngOf(page, ONE_WAY, 61)],
     ['odd.ppm', ppmOf(TWO_WAYS)],
-    ['odd.givens', 'given 3 1\n'],
+    ['odd.ppm.givens', 'given 3 1\n'],
     ['lost.background', 'white\n'],
     ['=1+1.ppm', ppmOf(TWO_WAYS)],
     ['art17.png', await pngOf(page, ['ABCDEF', 'GHIJKL', 'MNOPQA'], 25)],
-    ['"q".givens', ''],
+    ['"q".ppm.givens', ''],
     ['set.xml', setOf([1, 1], [2, 2], [1, 1])],
   ]);
   await takeAll(hands, paths);
@@ -469,27 +498,39 @@ export async function severalPoint(hands, {page, trial, own}) {
   assert.deepEqual(
       rows.map(([name, size, colours, verdict]) => [name, size, colours, verdict]).slice(0, 3),
       [
-        ['little', '2 by 3', '3', 'unique'],
-        ['two', '2 by 2', '2', 'ambiguous'],
-        ['heart', rows[2][1], rows[2][2], 'unique']
+        ['little', '2 by 3', '3', ' unique'],
+        ['two', '2 by 2', '2', ' ambiguous'],
+        ['heart', rows[2][1], rows[2][2], ' unique']
       ]
   );
   assert.deepEqual(rows.slice(4, 7).map((row) => row.slice(0, 4)), [
-    ['spot', '2 by 2, 1 cell given', '2', 'unique'],
-    ['night', '2 by 2, background: black', '2', 'ambiguous'],
-    ['art', '2 by 3', '3', 'unique']
+    ['spot', '2 by 2, 1 cell given', '2', ' unique'],
+    ['night', '2 by 2, background: black', '2', ' ambiguous'],
+    ['art', '2 by 3', '3', ' unique']
   ]);
   assert.deepEqual(rows.slice(8, 13).map((row) => [row[0], row[3] ?? row[1]]), [
-    ['=1+1', 'ambiguous'],
+    ['=1+1', ' ambiguous'],
     ['art17', rows[9][3]],
-    ['set', 'ambiguous'],
+    ['set', ' ambiguous'],
     ['set 2', 'no picture has these clues'],
-    ['set 3', 'ambiguous']
+    ['set 3', ' ambiguous']
   ]);
+  const marked = await page.run(
+      () => [...document.querySelectorAll('#several [data-verdict]')].map(
+          (cell) => [cell.dataset.verdict, cell.querySelector('svg') !== null]
+      )
+  );
+  assert.deepEqual(marked.slice(0, 2), [['unique', true], ['ambiguous', true]]);
   assert.match(rows[9][2], /^(\d|1[0-6]) of 17$/);
   assert.deepEqual([rows[7], rows[13]], [
-    ['odd', '\u201codd.givens\u201d could not be read: row 3, column 1 is outside the picture.'],
-    ['lost.background', 'no picture here goes with it']
+    [
+      'odd',
+      '\u201codd.ppm.givens\u201d could not be read: row 3, column 1 is outside the picture.'
+    ],
+    [
+      'lost.background',
+      'no picture here goes with it: what goes with heart.ppm is called heart.ppm.background'
+    ]
   ]);
   assert.match(await trial.text('dialog[open]'), /Certificates are not checked here/);
   assert.match(rows[0][4], /^(easy|medium|hard|very hard|expert)$/);
@@ -502,7 +543,7 @@ export async function severalPoint(hands, {page, trial, own}) {
     assert.ok(text.includes(name), name);
   assert.ok(text.includes('"two","2 by 2","2","ambiguous"'));
   assert.ok(text.includes(`"'=1+1","2 by 2"`), 'no formula');
-  assert.ok(text.includes('\n"""q"".givens","no picture'), 'quotes');
+  assert.ok(text.includes('\n"""q"".ppm.givens","no picture'), 'quotes');
   assert.ok(text.includes('"spot","2 by 2, 1 cell given","2","unique"'));
   await closedDialog(page);
   await clean(page);
@@ -588,8 +629,8 @@ export async function foldersApart({browser, folder}) {
   rmSync(set, {recursive: true, force: true});
   for (const [part, files] of Object.entries({
          one: {'spot.ppm': ppmOf(TWO_WAYS)},
-         two: {'spot.ppm': ppmOf(TWO_WAYS), 'spot.givens': 'given 1 2\n'},
-         three: {'spot.background': '0,0,0'}
+         two: {'spot.ppm': ppmOf(TWO_WAYS), 'spot.ppm.givens': 'given 1 2\n'},
+         three: {'spot.ppm.background': '0,0,0'}
        })) {
     mkdirSync(join(set, part), {recursive: true});
     for (const [name, text] of Object.entries(files)) writeFileSync(join(set, part, name), text);
@@ -603,7 +644,10 @@ export async function foldersApart({browser, folder}) {
   );
   assert.deepEqual((await rowsShown(page)).map((row) => row.slice(0, 4)), [
     ['spot', '2 by 2', '2', 'ambiguous'],
-    ['spot.background', 'no picture here goes with it'],
+    [
+      'spot.ppm.background',
+      'no picture here goes with it: what goes with heart.ppm is called heart.ppm.background'
+    ],
     ['spot', '2 by 2, 1 cell given', '2', 'unique']
   ]);
   // A table that is open gives way to that of another folder.

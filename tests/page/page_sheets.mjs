@@ -7,7 +7,7 @@ import {cluesOf} from '../../page/test/clues.mjs';
 import '../../page/test/limits.mjs';
 import {long} from '../waits.mjs';
 
-const {entryOf, legendOf, SHEET_TEXTS} = await import('../../page/export/entries.js');
+const {entryOf, inOrder, legendOf, SHEET_TEXTS} = await import('../../page/export/entries.js');
 const {inksOf} = await import('../../page/formats/webpbn.js');
 const {namesOf} = await import('../../page/document/names.js');
 const {alikeBoxes} = await import('../../page/draw/papers.js');
@@ -38,6 +38,7 @@ const options = (more = {}) => ({
   show: 'colours',
   answers: false,
   hasGrade: true,
+  head: 'titles',
   texts: SHEET_TEXTS,
   ...more
 });
@@ -48,8 +49,14 @@ const sheetsWith = (puzzles, more = {}) =>
         ),
         options(more)
     ).map((make) => make());
-const sheets = (docs, more = {}) =>
-    sheetsWith(docs.map((doc) => ({doc, clues: cluesOf(doc.picture)})), more);
+const sheets = (docs, more = {}) => sheetsWith(
+    docs.map((doc, at) => ({
+               doc,
+               clues: cluesOf(doc.picture),
+               number: docs.length > 1 && more.head === 'numbers' ? at + 1 : null
+             })),
+    more
+);
 
 // The texts of a drawing with their places, and its rectangles.
 const textsOf = ({svg}) => [...svg.matchAll(/<text ([^>]*)>([^<]*)<\/text>/g)].map(
@@ -142,8 +149,8 @@ test('the clues of a sheet are those that are handed in, whatever the picture is
     rows: [['7c', '8a'], []].map((line) => line.map(block)),
     columns: [['9b'], [], ['6c', '5b']].map((line) => line.map(block))
   };
-  const wanted =
-      ['8a', '7c', '0', '9b', '0', '5b', '6c'];  // rows, then columns, each from its cells outward
+  // rows, then columns, each from its cells outward
+  const wanted = ['8a', '7c', '0', '9b', '0', '5b', '6c'];
   assert.deepEqual(digitsOf(sheetsWith([{doc, clues}], {show: 'letters'})[0]), wanted);
   assert.deepEqual(
       digitsOf(sheetsWith([{doc, clues}], {show: 'signs'})[0]),
@@ -440,6 +447,35 @@ test('beside letters numbers have one size, that of the longest, where it is rea
       'of a cell of 3 mm the short ones stay as large as they may be'
   );
   assert.ok(Math.abs(small.share - large.share) < 0.01);
+});
+
+test('numbers stand above puzzles, and titles only with the solutions', () => {
+  const about = {title: 'A duck', author: 'A. B.'};
+  const texts = (count) =>
+      sheets(
+          Array(count).fill({...CROSS, about}), {head: 'numbers', answers: true, perSheet: 2}
+      ).map((sheet) => textsOf(sheet).map(({text}) => text));
+  const [puzzles, solutions] = texts(2);
+  assert.deepEqual(puzzles.filter((text) => /^Puzzle/.test(text)), ['Puzzle 1', 'Puzzle 2']);
+  assert.doesNotMatch(puzzles.join(), /duck/);
+  assert.deepEqual(
+      solutions.filter((text) => /duck/.test(text)), ['Solution 1: A duck', 'Solution 2: A duck']
+  );
+  const [alone, solution] = texts(1);
+  assert.ok(alone.includes('Puzzle'));
+  assert.doesNotMatch(alone.join(), /duck/);
+  assert.ok(solution.includes('A duck: solution'));
+});
+
+test('a book is ordered by grade, by name or by hand', () => {
+  const book =
+      [['10 dog', 'hard'], ['2 cat', 'easy'], ['fox', null], ['ant', 'very-hard'], ['bee', 'easy']]
+          .map(([name, grade]) => ({name, grade}));
+  const names = (order) => inOrder(book, order).map(({name, number}) => `${number} ${name}`);
+  assert.deepEqual(names('grade'), ['1 2 cat', '2 bee', '3 10 dog', '4 ant', '5 fox']);
+  assert.deepEqual(names('name'), ['1 2 cat', '2 10 dog', '3 ant', '4 bee', '5 fox']);
+  assert.deepEqual(names('hand'), ['1 10 dog', '2 2 cat', '3 fox', '4 ant', '5 bee']);
+  assert.equal(inOrder(book.slice(0, 1), 'name')[0].number, null);
 });
 
 test('several puzzles a sheet, and the solutions at the end', () => {

@@ -27,6 +27,7 @@ import * as phone from './page_phone.mjs';
 import * as pictures from './page_pictures.mjs';
 import * as points from './page_points.mjs';
 import * as repairs from './page_repairs.mjs';
+import * as screens from './page_screens.mjs';
 import * as sharing from './page_sharing.mjs';
 import * as stored from './page_stored.mjs';
 import * as ways from './page_ways.mjs';
@@ -51,6 +52,7 @@ const rooms = {
   stored,
   out,
   looks,
+  screens,
   pens,
   phone,
   sharing,

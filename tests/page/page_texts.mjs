@@ -102,6 +102,8 @@ const SAME_FRENCH = [
 const SAME = [
   'export.webpbnXml',
   'view.name',
+  'play.lineSays',
+  'play.blockIn',
   'play.pause',
   'library.form',
   'import.dithering',
@@ -147,7 +149,9 @@ test('no English is left in French', () => {
 
 test('numbers and forms are those of the language', () => {
   assert.equal(filled(DE['view.cells'], {cells: 1}), '1 Feld');
-  assert.equal(filled(DE['view.countDiffer'], {cells: 3}), '3 Felder weichen ab');
+  assert.equal(
+      filled(DE['view.otherDiffers'], {cells: 3}), 'Ein anderes Bild weicht in 3 Feldern ab.'
+  );
   assert.equal(filled(DE['view.andGivenCells'], {cells: 1}), ' und das vorgegebene Feld');
 });
 
@@ -191,15 +195,14 @@ test('lines by their names and places, a verdict and what opens a dialog, in wor
       ['row 1', 'Column 12', 'Print …']
   );
   assert.deepEqual(
-      ['unique', 'ambiguous', 'undecided'].map(verdictTitle),
-      ['✓ Unique', '≠ Ambiguous', '? Undecided']
+      ['unique', 'ambiguous', 'undecided'].map(verdictTitle), ['Unique', 'Ambiguous', 'Undecided']
   );
 });
 
 // ---- no text elsewhere
 
 // Modules whose texts no user reads, or that are the same in all languages: commands of a session,
-// what goes into files, names in them, the line of a grade (docs/FORMATS.md), faults inside the
+// what goes into files, names in them, the line of a grade (docs/SESSION.md), faults inside the
 // page.
 const INSIDE = [
   'base/names.js',

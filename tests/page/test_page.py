@@ -1,4 +1,5 @@
-"""The page's scripts: each file of tests for node, the names and types in the modules, and the page in browsers."""
+"""The page's scripts: each file of tests for node, the names and types in the modules, and the page
+in browsers."""
 
 import os
 import re
@@ -8,7 +9,12 @@ import pytest
 from tried import needs, node_tests, passes
 
 HERE = Path(__file__).parent
-FILES = sorted(file for file in HERE.glob('*.mjs') if 'Run: node --test' in file.read_text())
+# The first lines say how a file is run; a line of comment may end within that.
+FILES = sorted(
+    file
+    for file in HERE.glob('*.mjs')
+    if 'Run: node --test' in file.read_text().replace('\n//', '')
+)
 # The rooms of trials that page_test.mjs has.
 ROOMS = re.findall(
     r"^import \* as (\w+) from './page_", (HERE / 'page_test.mjs').read_text(), re.MULTILINE
@@ -39,7 +45,8 @@ NEWER = ('lasting', 'meaning')
     ],
 )
 def test_in_chromium(kept, page, room, tmp_path):
-    """Trials by mouse, keys and fingers, and what is shown compared with sessions of the program on the same picture."""
+    """Trials by mouse, keys and fingers, and what is shown compared with sessions of the program on
+    the same picture."""
     needs(
         'node', 'esbuild', 'unzip', 'pdfinfo', 'pdftotext', os.environ.get('CHROMIUM', 'chromium')
     )

@@ -1,5 +1,5 @@
-"""The other systems for which library and program are made, and how their programs are run here: those for Linux on arm64 by
-qemu-aarch64, those for Windows by wine."""
+"""The other systems for which library and program are made, and how their programs are run here:
+those for Linux on arm64 by qemu-aarch64, those for Windows by wine."""
 
 import os
 import subprocess
@@ -61,8 +61,9 @@ class Linux:
 
 
 class Windows:
-    """Windows on x86-64, with a home of its own. What wine starts beside a program keeps its streams open, so these are files; and
-    since it takes long to begin, one program there runs many (launch.c)."""
+    """Windows on x86-64, with a home of its own. What wine starts beside a program keeps its
+    streams open, so these are files; and since it takes long to begin, one program there runs many
+    (launch.c)."""
 
     name, compiler, shared_library, program = (
         'windows-x86_64',
@@ -108,8 +109,8 @@ class Windows:
         return Ended(run.returncode, files[1].read_bytes(), files[2].read_bytes())
 
     def launch(self, lines, cwd):
-        """How programs end: each is a line of a command, and three names of streams as launch.c takes them. What wine did not begin, as
-        it was seen to happen at load, is run again."""
+        """How programs end: each is a line of a command, and three names of streams as launch.c
+        takes them. What wine did not begin, as it was seen to happen at load, is run again."""
         found = self.launch_once(dict(enumerate(lines)), cwd)
         for _ in range(TRIES):
             lost = {at: lines[at] for at, run in found.items() if LOST < run.status < NOT_ENDED}

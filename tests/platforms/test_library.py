@@ -1,5 +1,6 @@
-"""The library for other systems, as platforms/build makes it of the module of the crate web. That for Linux on arm64 is run by
-qemu-aarch64, and that for Windows by wine; those for macOS are only looked at."""
+"""The library for other systems, as platforms/build makes it of the module of the crate web. That
+for Linux on arm64 is run by qemu-aarch64, and that for Windows by wine; those for macOS are only
+looked at."""
 
 import re
 import shutil
@@ -15,9 +16,11 @@ pytestmark = [pytest.mark.toolchain, pytest.mark.compiler, pytest.mark.emulator]
 HERE = Path(__file__).parent
 CROSS = 'P3\n2 2\n1\n0 0 0 1 1 1\n1 1 1 0 0 0\n'
 ALL_GIVEN = 'nonocert 2\ngiven 1 1\ngiven 1 2\ngiven 2 1\ngiven 2 2\ndone\n'
-# How many bytes of stack are left for some calls: with those of the header they are done (Windows keeps some for itself).
+# How many bytes of stack are left for some calls: with those of the header they are done (Windows
+# keeps some for itself).
 STACKS = (512, 2048, 5000, 9000, 15000, 25000, 196608 + 32768)
-# Linux ends the process by a signal, and Windows by an exception; 8 is said where wine ends the thread alone (stack.c).
+# Linux ends the process by a signal, and Windows by an exception; 8 is said where wine ends the
+# thread alone (stack.c).
 ENDED_BY_OVERFLOW = {-signal.SIGSEGV, 0xC00000FD & 0xFF, 0xC0000005 & 0xFF, 8}
 # How many pictures are made by chance.
 COUNT = 10000
@@ -44,19 +47,19 @@ def test_of_the_checker_alone(system, tmp_path):
     assert (run.status, run.wrote.split()[-2:]) == (0, [b'0', b'failed']), run
 
 
-# What the example is called with, and how it ends: certificates that are accepted, by hand as in tests/cases/fit.txt, refused, and
-# that name a given which is not published.
+# What the example is called with, and how it ends: certificates that are accepted, by hand as in
+# tests/cases/fit.txt, refused, and that name a given which is not published.
 EXAMPLE = {
-    'diagonal.ppm diagonal.cert': (
+    'diagonal.ppm diagonal.ppm.cert': (
         0,
         b'unique\nsize 2 2\ncolours 3\ngivens 0\nopen 0\ngrade easy 1 4 3 0 0\nfit\n',
     ),
-    'given.ppm given.cert 1,1': (
+    'given.ppm given.ppm.cert 1,1': (
         0,
         b'unique\nsize 2 2\ncolours 2\ngivens 1\nopen 0\ngrade easy 1 4 2 0 0\nfit\n',
     ),
-    'given.ppm given.cert': (1, b'refused: certificate UnpublishedGiven at line 2\n'),
-    'given.ppm diagonal.cert': (1, b'refused: certificate NotDead at line 5\n'),
+    'given.ppm given.ppm.cert': (1, b'refused: certificate UnpublishedGiven at line 2\n'),
+    'given.ppm diagonal.ppm.cert': (1, b'refused: certificate NotDead at line 5\n'),
     'cross.ppm cross.cert 1,2 1,1 2,2': (1, b'refused: certificate UnpublishedGiven at line 4\n'),
 }
 
@@ -69,7 +72,7 @@ def test_shared_library(system, tmp_path):
     else:
         library = [tmp_path / system.shared_library]
     program = linked(system, tmp_path, ROOT / 'c' / 'example.c', *library)
-    for name in ('diagonal.ppm', 'diagonal.cert', 'given.ppm', 'given.cert'):
+    for name in ('diagonal.ppm', 'diagonal.ppm.cert', 'given.ppm', 'given.ppm.cert'):
         shutil.copy(EXAMPLES / name, tmp_path)
     (tmp_path / 'cross.ppm').write_text(CROSS)
     (tmp_path / 'cross.cert').write_text(ALL_GIVEN)
@@ -154,8 +157,8 @@ def symbols(archive):
 
 # What the C library of macOS has.
 FROM_C = set(
-    'malloc realloc free memcpy memmove memset memcmp bcmp bzero __bzero memset_pattern16 strlen strcmp strncmp strchr sprintf snprintf sscanf '
-    '__stack_chk_fail __stack_chk_guard'.split()
+    'malloc realloc free memcpy memmove memset memcmp bcmp bzero __bzero memset_pattern16 strlen'
+    ' strcmp strncmp strchr sprintf snprintf sscanf __stack_chk_fail __stack_chk_guard'.split()
 )
 
 

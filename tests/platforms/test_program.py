@@ -1,5 +1,6 @@
-"""The program for other systems, as platforms/build makes it of the module of the crate nonobench: cases and sessions, words and paths in
-any script, streams, and on Windows what a shell there leaves to a program."""
+"""The program for other systems, as platforms/build makes it of the module of the crate nonobench:
+cases and sessions, words and paths in any script, streams, and on Windows what a shell there leaves
+to a program."""
 
 import shutil
 import sys
@@ -22,7 +23,8 @@ NO_WRITE = Ended(3, b'', b'nonobench: write failed\n')
 NO_TEXT = Ended(2, b'', b'nonobench: a word is not UTF-8\n')
 CLUES = Ended(0, b'r 1: 1a\nc 1: 1a\n', b'')
 YES = Ended(0, b'certificate accepted\n', b'')
-# Names in scripts that no old character set of Windows has together, one of them of letters beyond 16 bits.
+# Names in scripts that no old character set of Windows has together, one of them of letters beyond
+# 16 bits.
 NAMES = ('bödy.ppm', 'картинка.ppm', '日本.ppm', '😀𝔻.ppm', "a b 'c' & (d).ppm")
 
 
@@ -121,7 +123,8 @@ def test_help_and_version(system, kept, tmp_path):
 
 @ON_WINDOWS
 def test_words_that_are_no_text_on_windows(system, tmp_path):
-    """Half of a pair that stands alone, either one, and both in the wrong order; a whole pair is a letter."""
+    """Half of a pair that stands alone, either one, and both in the wrong order; a whole pair is a
+    letter."""
     (tmp_path / '😀').write_bytes(PIXEL)
     line = system.line(['work'])
     lines = [
@@ -154,7 +157,8 @@ def test_streams_on_windows(system, tmp_path):
 
 @ON_WINDOWS
 def test_files_on_windows(system, tmp_path):
-    """One that is locked, the null device, a path that is long, also as it is given in full, and one behind backslashes."""
+    """One that is locked, the null device, a path that is long, also as it is given in full, and
+    one behind backslashes."""
     deep = '/'.join(['a' * 60] * 6)
     (tmp_path / deep).mkdir(parents=True)
     (tmp_path / deep / 'pixel').write_bytes(PIXEL)
@@ -177,9 +181,9 @@ def test_files_on_windows(system, tmp_path):
 @ON_WINDOWS
 def test_marks_of_names_on_windows(system, tmp_path):
     """The program itself replaces * and ? by names of files."""
-    for name in ('given.ppm', 'given.cert'):
+    for name in ('given.ppm', 'given.ppm.cert'):
         shutil.copy(EXAMPLES / name, tmp_path)
-    words = ['check', '*.ppm', 'g?ven.cert'], ['check', 'none*', 'given.cert']
+    words = ['check', '*.ppm', 'g?ven.ppm.cert'], ['check', 'none*', 'given.ppm.cert']
     runs = system.launch([(system.line(line), '-', '', '') for line in words], tmp_path)
     assert runs == [Ended(0, b'certificate accepted, givens 1\n', b''), NO_READ]
 

@@ -1,5 +1,5 @@
-"""The packages for other systems: they have what was made for these systems, which the tests beside this file run, and are unpacked, and
-asked for a check, as their users would."""
+"""The packages for other systems: they have what was made for these systems, which the tests beside
+this file run, and are unpacked, and asked for a check, as their users would."""
 
 import os
 import shutil
@@ -33,15 +33,12 @@ def test_archive(system, made, tmp_path):
     places += ['include/nonobench.h', 'include/nonocheck.h']
     are_those(folder, {place: place.split('/')[-1] for place in places}, system.made)
     pair = [
-        folder / 'share/doc/nonobench/examples' / f'diagonal.{kind}' for kind in ('ppm', 'cert')
+        folder / 'share/doc/nonobench/examples' / f'diagonal.{kind}' for kind in ('ppm', 'ppm.cert')
     ]
     assert system.run(folder / 'bin/nonobench', 'check', *pair) == YES
     run = clean([folder / 'install', '--prefix', tmp_path / 'prefix'])
-    assert (
-        run.status,
-        run.said.startswith(b'install: this is for Linux on aarch64, not for Linux on '),
-    ) == (1, True), run
-    assert not (tmp_path / 'prefix').exists()
+    assert run.status == 1 and b'install: the program does not run here: ' in run.said, run
+    assert not (tmp_path / 'prefix' / 'bin').exists()
 
 
 @ON_LINUX
@@ -77,7 +74,9 @@ def test_wheel(system, made, tmp_path):
         ROOT / 'c' / 'example.c',
         tmp_path / 'nonobench' / 'libnonobench.so',
     )
-    assert system.run(program, *(EXAMPLES / f'diagonal.{kind}' for kind in ('ppm', 'cert'))) == FIT
+    assert (
+        system.run(program, *(EXAMPLES / f'diagonal.{kind}' for kind in ('ppm', 'ppm.cert'))) == FIT
+    )
 
 
 @ON_LINUX
@@ -88,7 +87,7 @@ def test_wheel_in_python(system, made, tmp_path):
         pytest.skip('there is no Python for arm64, which a folder ARM64_ROOT has')
     passes([sys.executable, '-m', 'zipfile', '-e', named(made, '*_aarch64.whl'), tmp_path])
     shutil.copy(ROOT / 'tests' / 'packages' / 'trials' / 'ask.py', tmp_path)
-    pair = [EXAMPLES / f'given.{kind}' for kind in ('ppm', 'cert')]
+    pair = [EXAMPLES / f'given.{kind}' for kind in ('ppm', 'ppm.cert')]
     alone = ['qemu-aarch64', '-L', root, '-U', 'NONOBENCH_LIBRARY', '-U', 'PYTHONPATH']
     python = [*alone, f'{root}/usr/bin/python3.11', tmp_path / 'ask.py', *pair]
     assert ended(python) == Ended(1, b'refused: certificate UnpublishedGiven at line 2\n', b'')
@@ -96,32 +95,9 @@ def test_wheel_in_python(system, made, tmp_path):
 
 
 @ON_WINDOWS
-def test_wheel_for_windows(system, made, tmp_path):
-    """Its program is run, and its library called from C; its Python is not run by us, since Debian has none for Windows."""
-    package = named(made, 'nonobench-*-py3-none-win_amd64.whl')
-    passes([sys.executable, '-m', 'zipfile', '-e', package, tmp_path])
-    folder = tmp_path / 'nonobench'
-    are_those(
-        folder, {'nonobench.dll': 'nonobench.dll', 'nonobench.exe': 'nonobench.exe'}, system.made
-    )
-    [about] = tmp_path.glob('nonobench-*.dist-info/WHEEL')
-    assert 'Tag: py3-none-win_amd64\n' in about.read_text()
-    assert 'We have not run it on Windows' in (folder / '_by_program.py').read_text()
-    pair = [EXAMPLES / f'diagonal.{kind}' for kind in ('ppm', 'cert')]
-    program = linked(system, folder, ROOT / 'c' / 'example.c', system.made / 'libnonobench.dll.a')
-    for run, told in (
-        (system.run(folder / 'nonobench.exe', 'check', *pair), YES),
-        (system.run(program, *pair), FIT),
-    ):
-        assert (run.status, run.wrote.replace(b'\r\n', b'\n').strip()) == (
-            0,
-            told.wrote.strip(),
-        ), run
-
-
-@ON_WINDOWS
 def test_archive_for_windows(system, made, tmp_path):
-    """The commands of its README, in the Command Prompt of its folder; MinGW's compiler is that of this machine."""
+    """The commands of its README, in the Command Prompt of its folder; MinGW's compiler is that of
+    this machine."""
     package = named(made, 'nonobench-*-windows-x86_64.zip')
     passes([sys.executable, '-m', 'zipfile', '-e', package, tmp_path])
     folder = tmp_path / package.stem
@@ -139,7 +115,8 @@ def test_archive_for_windows(system, made, tmp_path):
     runs = system.launch(
         [(f'cmd /d /c {command}', '-', '', '') for command in commands if command != build], folder
     )
-    assert [(run.status, run.said) for run in runs] == [(0, b'')] * 4, runs
+    assert [(run.status, run.said) for run in runs] == [(0, b'')] * 5, runs
     first = [run.wrote.split(b'.')[0].replace(b'\r\n', b'\n').strip() for run in runs]
-    assert first == [YES.wrote.strip(), b'', b'Multicolour nonograms', FIT.wrote.strip()]
-    assert (folder / 'heart.cert').read_bytes().startswith(b'nono')
+    fit = FIT.wrote.strip()
+    assert first == [YES.wrote.strip(), b'', b'Multicolour nonograms', fit, fit]
+    assert (folder / 'heart.ppm.cert').read_bytes().startswith(b'nono')

@@ -3,7 +3,10 @@
 import pytest
 from tried import ROOT, ended, needs
 
-WIDE = 'target datalayout = "e-m:e-p270:32:32-p271:32:32-p272:64:64-i64:64-i128:128-f80:128-n8:16:32:64-S128"'
+WIDE = (
+    'target datalayout ='
+    ' "e-m:e-p270:32:32-p271:32:32-p272:64:64-i64:64-i128:128-f80:128-n8:16:32:64-S128"'
+)
 TRIPLE = 'target triple = "x86_64-unknown-linux-gnu"'
 LAYOUTS = {
     'linux': 'target datalayout = "L"\ntarget triple = "aarch64-unknown-linux-gnu"\n',

@@ -27,8 +27,9 @@ def commands_of(program):
 
 
 def words_of(program, *words):
-    """The words, arguments and options behind some words: `work FILE`, `work --history N`, and ` --help`, which has a line of its
-    own in the synopsis as the version has. The program's own commands are `word NAME`."""
+    """The words, arguments and options behind some words: `work FILE`, `work --history N`, and `
+    --help`, which has a line of its own in the synopsis as the version has. The program's own
+    commands are `word NAME`."""
     word = words[0] if words else ''
     found = set()
     for part, line in parts_of(help_of(program, *words)):
@@ -53,7 +54,8 @@ def options_of(program, *words):
 
 
 def formats_of(program, command):
-    """The formats of puzzles that `work` and `assess` take, or those of certificates that `prove` makes."""
+    """The formats of puzzles that `work` and `assess` take, or those of certificates that `prove`
+    makes."""
     return set(
         re.search(r'--format.*possible values: ([^]]*)\]', help_of(program, command))[1].split(', ')
     )

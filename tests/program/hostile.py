@@ -1,14 +1,17 @@
 #!/usr/bin/env python3
-"""Tries the longest texts that the program takes, of each hostile kind: comments, zeros, tokens and samples without end; .non texts
-of a million sections or numbers; certificates of nested splits, of idle splits and idle lines, of deep branches, of a million lemmas
-without literals or on a large picture, of one long lemma, and of its uses; sessions without a line end.
+"""Tries the longest texts that the program takes, of each hostile kind: comments, zeros, tokens and
+samples without end; .non texts of a million sections or numbers; certificates of nested splits, of
+idle splits and idle lines, of deep branches, of a million lemmas without literals or on a large
+picture, of one long lemma, and of its uses; sessions without a line end.
 
-For each it prints the instructions per byte (by callgrind, on texts of 64 to 256 KiB; none if valgrind is missing), the seconds,
-and the peak of memory beyond the text (a session keeps no text; if /usr/bin/time is missing, what is below some 15 MiB is that of
-this script). The status is 1 if a text gets a wrong answer, the cost of a byte grows with the text or is above a bound, or the memory
+For each it prints the instructions per byte (by callgrind, on texts of 64 to 256 KiB; none if
+valgrind is missing), the seconds, and the peak of memory beyond the text (a session keeps no text;
+if /usr/bin/time is missing, what is below some 15 MiB is that of this script). The status is 1 if a
+text gets a wrong answer, the cost of a byte grows with the text or is above a bound, or the memory
 reaches 64 MiB (72 MiB for certificates with lemmas).
 
-Usage: tests/program/hostile.py [KIND ..]: parts of the names of kinds. PROGRAM names another program than the proved one.
+Usage: tests/program/hostile.py [KIND ..]: parts of the names of kinds. PROGRAM names another
+program than the proved one.
 """
 import os
 import re
@@ -39,7 +42,8 @@ def lines(*parts):
 
 
 def splits():
-    """The lines of a tree that splits each cell, sixteen ways, and ends each branch in the first row, which is dead."""
+    """The lines of a tree that splits each cell, sixteen ways, and ends each branch in the first
+    row, which is dead."""
     cells = [
         lines(f'split {row} {col}') for row in range(1, SIDE + 1) for col in range(1, SIDE + 1)
     ]
@@ -91,7 +95,8 @@ SMALL = lines('P3', '2 2', '255', '0 0 0', '255 255 255', '255 255 255', '0 0 25
 DEAD_ROOT = lines(
     'part 1 1 .bcdefghijklmno', 'line r 1', 'line c 1', 'line r 2', 'done', 'line r 1', 'line c 2'
 )
-# A lemma of the most literals, all of them denied by its own first; then a branch in which none of them has a colour left.
+# A lemma of the most literals, all of them denied by its own first; then a branch in which none of
+# them has a colour left.
 LONG_LEMMA = lines('lemma', *['deny 1 1 a'] * 1024, 'dead r 1', 'part 1 1 a')
 DENSE = lines(
     'P3',
@@ -113,8 +118,8 @@ PUZZLE = lines('width 1', 'height 1', 'rows', '1', 'columns', '1')
 
 
 class Kind:
-    """A kind of text: how it begins, what is said again and again, and how it ends; the words that hand it in, and the fault
-    that it has, as a pattern, or None where it is taken."""
+    """A kind of text: how it begins, what is said again and again, and how it ends; the words that
+    hand it in, and the fault that it has, as a pattern, or None where it is taken."""
 
     def __init__(self, words, head, body, tail=b'', beside=b'', is_kept=True, fault=None):
         self.words = words
@@ -144,7 +149,8 @@ class Kind:
         return os.path.getsize(path)
 
     def pieces(self, room):
-        """What is said again and again, in pieces, with so many bytes in all; of a certificate, whole lines."""
+        """What is said again and again, in pieces, with so many bytes in all; of a certificate,
+        whole lines."""
         said = self.said()
         while True:
             piece = b''.join(islice(said, 16))
@@ -218,7 +224,8 @@ KINDS = {
     ),
     'certificate: line r 1': cert(b'line r 1\n', ENDED),
     'certificate: line r 2': cert(b'line r 2\n', ENDED),
-    # The tree is whole with the first `done`, which stands below the twenty lines that settle the picture.
+    # The tree is whole with the first `done`, which stands below the twenty lines that settle the
+    # picture.
     'certificate: lines behind the end': cert(
         lambda: behind_blank('done'), 'Trailing at line 23', BLANK
     ),
@@ -297,7 +304,8 @@ class Machine:
         return bytes_of, words, os.devnull if 'text' in kind.words else path
 
     def measure(self, kind, size):
-        """The bytes of the text, the peak of memory in bytes, the seconds, the status, a signal, and what was said."""
+        """The bytes of the text, the peak of memory in bytes, the seconds, the status, a signal,
+        and what was said."""
         bytes_of, words, given = self.prepare(kind, size)
         said, told = (os.path.join(self.folder, name) for name in ('said', 'told'))
         # A process begun by this one has its peak too. One that TIME begins has its own.
@@ -353,7 +361,8 @@ def is_linear(small, large, slack, factor):
 
 
 def row_of(machine, name, kind):
-    """Measures one kind; its line of the table, and whether the answer is right and all is within bounds."""
+    """Measures one kind; its line of the table, and whether the answer is right and all is within
+    bounds."""
     few, low, fast, *_ = machine.measure(kind, MOST_BYTES // 4)
     many, peak, seconds, status, signal, said = machine.measure(kind, MOST_BYTES)
     over = max(0, peak - many if kind.is_kept else peak)
@@ -390,7 +399,8 @@ def takes_work(program):
 
 
 def main(*wanted):
-    """Measures all kinds that the program takes, or those whose names hold a word that was asked for."""
+    """Measures all kinds that the program takes, or those whose names hold a word that was asked
+    for."""
     program = os.path.abspath(os.environ.get('PROGRAM', PROVED))
     with tempfile.TemporaryDirectory() as folder:
         return measured(program, folder, wanted)

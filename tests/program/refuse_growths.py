@@ -1,14 +1,17 @@
 #!/usr/bin/env python3
-"""Makes each allocation of the built program fail in turn: the clues of each picture in examples/, arguments that are refused or
-ask for help, checks of certificates, certificates with lemmas and checks of them, assessments, and sessions on pictures and puzzles.
+"""Makes each allocation of the built program fail in turn: the clues of each picture in examples/,
+arguments that are refused or ask for help, checks of certificates, certificates with lemmas and
+checks of them, assessments, and sessions on pictures and puzzles.
 
-A run that answers once must end with status 1, the line `nonobench: memory` and nothing of an answer; so must a session whose file
-is not open yet. A command of a session must be answered by `refused: Memory` alone, after which clues, map and picture are as
-before, and after `certify` the verdict; and the command is answered when it is sent again, as are all after it. An allocation may
-also fail without a trace, if the program can go on with less memory than it asked for: then all is as with enough memory.
+A run that answers once must end with status 1, the line `nonobench: memory` and nothing of an
+answer; so must a session whose file is not open yet. A command of a session must be answered by
+`refused: Memory` alone, after which clues, map and picture are as before, and after `certify` the
+verdict; and the command is answered when it is sent again, as are all after it. An allocation may
+also fail without a trace, if the program can go on with less memory than it asked for: then all is
+as with enough memory.
 
-Usage: tests/program/refuse_growths.py [WORD ..]: all runs, or those whose names hold a word. PROGRAM names another program than the
-proved one.
+Usage: tests/program/refuse_growths.py [WORD ..]: all runs, or those whose names hold a word.
+PROGRAM names another program than the proved one.
 """
 import os
 import subprocess
@@ -109,7 +112,8 @@ class Program:
         )
 
     def run(self, number, words, text=b''):
-        """The status, what was written and what was said but for the library's mark; and whether a growth was refused."""
+        """The status, what was written and what was said but for the library's mark; and whether a
+        growth was refused."""
         with self.open(number, words) as process:
             wrote, said = process.communicate(text)
         said, was_refused = without_mark(said)
@@ -133,14 +137,15 @@ class Run:
         self.ample, _ = program.run(0, words, text)
 
     def refuse(self, number):
-        """Refuses one growth: the run must end by memory and write nothing, or be as with ample memory. Whether a growth was
-        refused, and whether that was answered."""
+        """Refuses one growth: the run must end by memory and write nothing, or be as with ample
+        memory. Whether a growth was refused, and whether that was answered."""
         ended, was_refused = self.program.run(number, self.words, self.text)
         if ended == (1, b'', MEMORY) and was_refused:
             return True, True
         if ended != self.ample:
             raise Wrong(
-                f'it ends with status {ended[0]}, writes {ended[1][:80]!r} and says {ended[2][:80]!r}'
+                f'it ends with status {ended[0]}, writes {ended[1][:80]!r} and says'
+                f' {ended[2][:80]!r}'
             )
         return was_refused, False
 
@@ -205,9 +210,10 @@ class Session:
                 raise Wrong('with ample memory it does not end as it must')
 
     def refuse(self, number):
-        """Refuses one growth: its line is answered by memory alone, all that is shown is as before, and the line is answered
-        when it is said again, as are all behind it. Before the first line the program must end by memory. Whether a growth
-        was refused, and whether that was answered."""
+        """Refuses one growth: its line is answered by memory alone, all that is shown is as before,
+        and the line is answered when it is said again, as are all behind it. Before the first line
+        the program must end by memory. Whether a growth was refused, and whether that was answered.
+        """
         with self.program.open(number, self.words) as process:
             dialogue = Dialogue(process)
             is_open = all(self.says(dialogue, at) for at in range(len(self.lines)))
@@ -219,12 +225,14 @@ class Session:
             or dialogue.refusals > was_refused
         ):
             raise Wrong(
-                f'it ends with status {ended[0]} after {dialogue.refusals} refusals and says {ended[2][:80]!r}'
+                f'it ends with status {ended[0]} after {dialogue.refusals} refusals and says'
+                f' {ended[2][:80]!r}'
             )
         return was_refused, dialogue.refusals > 0 or not is_open
 
     def says(self, dialogue, at):
-        """Says a line, and again where it is refused; whether the program still answers, which it may not before the first."""
+        """Says a line, and again where it is refused; whether the program still answers, which it
+        may not before the first."""
         line = self.lines[at]
         got = dialogue.ask(line)
         if got == WANTED:
@@ -236,7 +244,8 @@ class Session:
         return got is not None
 
     def judges(self, dialogue, at):
-        """Stops where the verdict after a certificate that was refused is not the one that was asked for before it."""
+        """Stops where the verdict after a certificate that was refused is not the one that was
+        asked for before it."""
         if self.lines[at] == b'certify' and at > 0 and self.lines[at - 1] == b'verdict':
             got = dialogue.ask(b'verdict')
             if got != self.answers[at - 1]:
@@ -249,7 +258,8 @@ class Session:
 
 
 def ended(process):
-    """The status, what was written behind all that was read and what was said; and whether a growth was refused."""
+    """The status, what was written behind all that was read and what was said; and whether a growth
+    was refused."""
     try:
         process.stdin.close()
     except BrokenPipeError:
@@ -260,8 +270,8 @@ def ended(process):
 
 
 def in_turn(name, run):
-    """Refuses the first growth, the second and so on, until none is refused; how many were, and how many of these were not
-    answered since all went on as with ample memory."""
+    """Refuses the first growth, the second and so on, until none is refused; how many were, and how
+    many of these were not answered since all went on as with ample memory."""
     refused = idle = 0
     for number in range(1, MOST):
         try:
@@ -279,7 +289,7 @@ def in_turn(name, run):
 
 def background_of(path):
     """The words that name the background of an example's picture."""
-    background = path.with_suffix('.background')
+    background = path.with_suffix('.ppm.background')
     return ['--background', background.read_text().strip()] if background.exists() else []
 
 
@@ -309,7 +319,7 @@ def sessions(folder):
 
 def checks(program, folder):
     """Checks of certificates that a session gives: names and words."""
-    yield 'check given', ['check', str(EXAMPLES / 'given.ppm'), str(EXAMPLES / 'given.cert')]
+    yield 'check given', ['check', str(EXAMPLES / 'given.ppm'), str(EXAMPLES / 'given.ppm.cert')]
     for path in sorted(EXAMPLES.glob('*.ppm')):
         words = background_of(path)
         (_, cert, _), _ = program.run(0, ['work', str(path), *words], b'certify\n')
@@ -320,8 +330,8 @@ def checks(program, folder):
 
 
 def lemmas(program, folder):
-    """Certificates with lemmas that are made, and checks of them: names and words. Lines alone settle the examples, but not the last
-    two."""
+    """Certificates with lemmas that are made, and checks of them: names and words. Lines alone
+    settle the examples, but not the last two."""
     for path in (*sorted(EXAMPLES.glob('*.ppm')), *(TESTS / f'{name}.ppm' for name in UNSETTLED)):
         words = [str(path), *background_of(path)]
         yield f'prove {path.stem}', ['prove', *words]
@@ -338,12 +348,17 @@ def lemmas(program, folder):
 
 
 def assessments(folder):
-    """Assessments: names and words. Lines settle the first picture with its given alone, and not the last."""
+    """Assessments: names and words. Lines settle the first picture with its given alone, and not
+    the last."""
     givens = folder / 'givens'
     givens.write_bytes(b'given 1 1\n')
     given = ['assess', str(EXAMPLES / 'given.ppm'), '--givens', str(givens)]
     yield 'assess given', given
-    yield 'assess given by its certificate', [*given, '--certificate', str(EXAMPLES / 'given.cert')]
+    yield 'assess given by its certificate', [
+        *given,
+        '--certificate',
+        str(EXAMPLES / 'given.ppm.cert'),
+    ]
     yield 'assess with guesses', ['assess', str(TESTS / f'{UNSETTLED[0]}.ppm')]
 
 
@@ -390,7 +405,8 @@ def main(*wanted):
             print(wrong, file=sys.stderr)
             return 1
     print(
-        f'{all_refused} growths refused, {all_idle} of them without a trace, in {time.monotonic() - began:.0f} seconds'
+        f'{all_refused} growths refused, {all_idle} of them without a trace, in'
+        f' {time.monotonic() - began:.0f} seconds'
     )
     return (
         0 if all_refused else 1

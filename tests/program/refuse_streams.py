@@ -1,11 +1,12 @@
 #!/usr/bin/env python3
 """Makes each read and each byte of output of the built program fail in turn.
 
-A session's input is a terminal that hangs up after some number of bytes: it must answer each line whose line feed has come, and no
-other, and end with status 3 and `nonobench: read failed`. The output is a file with room for some number of bytes: it must hold the
-first bytes of the right text, as many as there is room for, and the program must end with status 3 and `nonobench: write failed`.
-Then come sessions whose reads give a few bytes each, up to the limit of reads and beyond it, inputs that never end, and a session
-whose next line is sent only when the last one has been answered.
+A session's input is a terminal that hangs up after some number of bytes: it must answer each line
+whose line feed has come, and no other, and end with status 3 and `nonobench: read failed`. The
+output is a file with room for some number of bytes: it must hold the first bytes of the right text,
+as many as there is room for, and the program must end with status 3 and `nonobench: write failed`.
+Then come sessions whose reads give a few bytes each, up to the limit of reads and beyond it, inputs
+that never end, and a session whose next line is sent only when the last one has been answered.
 
 Usage: tests/program/refuse_streams.py. PROGRAM names another program than the proved one.
 """
@@ -31,8 +32,8 @@ READ = (3, b'nonobench: read failed\n')
 WRITE = (3, b'nonobench: write failed\n')
 THREE = b'P3\n2 2\n255\n0 0 0\n0 0 0\n0 0 0\n255 255 255\n'
 REPORT = (
-    b'size 2 2\ncolours 2 maxval 255\n. 255 255 255\na 0 0 0\npicture\naa\na.\nclues\nr 1: 2a\nr 2: 1a\nc 1: 2a\nc 2: 1a\n'
-    b'map\naa\na.\nopen 0\nverdict unique\nhistory 0 1\n'
+    b'size 2 2\ncolours 2 maxval 255\n. 255 255 255\na 0 0 0\npicture\naa\na.\nclues\nr 1: 2a\nr 2:'
+    b' 1a\nc 1: 2a\nc 2: 1a\nmap\naa\na.\nopen 0\nverdict unique\nhistory 0 1\n'
 )
 # The lines of a session over three black cells of four, and what is said to each.
 LINES = (
@@ -74,7 +75,8 @@ class Streams:
         return path
 
     def run(self, words, limit=None, **streams):
-        """The status, what was said on standard error, and what was written where that is a pipe."""
+        """The status, what was said on standard error, and what was written where that is a
+        pipe."""
 
         def limited():
             if limit:
@@ -113,7 +115,8 @@ class Streams:
         return ended, Path(path).read_bytes()
 
     def in_pieces(self, words, pieces):
-        """Runs where each read gives one of the pieces: a pipe of packets keeps them apart. How it ended, and what it wrote."""
+        """Runs where each read gives one of the pieces: a pipe of packets keeps them apart. How it
+        ended, and what it wrote."""
         given, source = os.pipe2(os.O_DIRECT)
         with contextlib.suppress(
             OSError
@@ -148,7 +151,8 @@ def has_terminals():
 
 
 def reads(streams):
-    """Fails the read behind each byte of the session's input, and of the picture on standard input; how many."""
+    """Fails the read behind each byte of the session's input, and of the picture on standard input;
+    how many."""
     if not has_terminals():
         print('reads: left out, since this machine gives no terminal out')
         return 0
@@ -179,7 +183,7 @@ def writes(streams):
     runs = (
         (['work', 'three.ppm'], lines, answers),
         ([], streams.file('three.ppm', THREE), CLUES),
-        (['check', diagonal + '.ppm', diagonal + '.cert'], os.devnull, b'certificate accepted\n'),
+        (['check', diagonal + '.ppm', diagonal + '.ppm.cert'], os.devnull, b'certificate accepted\n'),
         (['--version'], os.devnull, version),
     )
     for words, source, wanted in runs:
@@ -193,16 +197,18 @@ def writes(streams):
 
 
 def endless(streams):
-    """Inputs without an end, each within bounded memory: three of them are too long, and a session ends at a failed write."""
+    """Inputs without an end, each within bounded memory: three of them are too long, and a session
+    ends at a failed write."""
     memory = (resource.RLIMIT_AS, (MOST_MEMORY, MOST_MEMORY))
     long = (1, b'nonobench: input too long\n')
     with open('/dev/zero', 'rb') as zeros:
         for words in ([], ['work', '/dev/zero'], ['check', 'three.ppm', '/dev/zero']):
             ended = streams.run(words, memory, stdin=zeros, stdout=subprocess.PIPE)
             must(ended == (long, b''), f'{words} on zeros without end: {ended}')
-    with subprocess.Popen(['yes', 'undo'], stdout=subprocess.PIPE) as source, open(
-        '/dev/full', 'wb'
-    ) as full:
+    with (
+        subprocess.Popen(['yes', 'undo'], stdout=subprocess.PIPE) as source,
+        open('/dev/full', 'wb') as full,
+    ):
         ended = streams.run(['work', 'three.ppm'], memory, stdin=source.stdout, stdout=full)
         source.stdout.close()
         source.kill()
@@ -211,8 +217,9 @@ def endless(streams):
 
 
 def pieces(streams):
-    """Gives the lines of the session in pieces of several sizes, and without the last line feed; and single bytes, up to the
-    number of reads that a session may make and beyond it. How many runs."""
+    """Gives the lines of the session in pieces of several sizes, and without the last line feed;
+    and single bytes, up to the number of reads that a session may make and beyond it. How many
+    runs."""
     given = b''.join(line for line, _ in LINES)
     wanted = b''.join(answer for _, answer in LINES)
     for size in (1, 2, 3, 7, 64):
@@ -224,7 +231,8 @@ def pieces(streams):
     for byte in (b'\n', b'a'):
         ended = streams.in_pieces(['work', 'three.ppm'], (byte for _ in range(MOST_READS + 1)))
         must(ended == (READ, b''), f'{byte} in more reads than a session may make: {ended}')
-    # One byte less leaves a read that tells that the input ends, and so does the line, which is too long.
+    # One byte less leaves a read that tells that the input ends, and so does the line, which is too
+    # long.
     ended = streams.in_pieces(['work', 'three.ppm'], (b' ' for _ in range(MOST_READS - 1)))
     must(
         ended == ((0, b''), b'refused: LongLine\n'), f'as many reads as a session may make: {ended}'
@@ -269,8 +277,8 @@ def main():
             print(wrong, file=sys.stderr)
             return 1
     print(
-        '%d reads and %d writes failed in turn; %d inputs in pieces; %d inputs without an end; %d lines of a dialogue; '
-        '%.0f seconds' % (*failed, *others, time.monotonic() - began)
+        '%d reads and %d writes failed in turn; %d inputs in pieces; %d inputs without an end; %d'
+        ' lines of a dialogue; %.0f seconds' % (*failed, *others, time.monotonic() - began)
     )
     return 0
 

@@ -1,4 +1,5 @@
-"""Assessments by the program: a puzzle as tests/cases/assess.case has it, several, and the files beside one."""
+"""Assessments by the program: a puzzle as tests/cases/assess.case has it, several, and the files
+beside one."""
 
 import pytest
 from test_cases import picture_of, printed, rows
@@ -50,7 +51,10 @@ def test_puzzle(nonobench, text, answer, tmp_path):
 
 def test_several(nonobench, folder):
     """A file that is refused has a line, and the others follow."""
-    wanted = f'puzzle 1\n{RING}puzzle 2\n{CROSS}puzzle 3\nrefused ppm Truncated at byte 3\npuzzle 4\n{RING}'
+    wanted = (
+        f'puzzle 1\n{RING}puzzle 2\n{CROSS}puzzle 3\nrefused ppm Truncated at byte 3\npuzzle'
+        f' 4\n{RING}'
+    )
     assert assessed(nonobench, folder, 'ring', 'cross', 'short', 'ring') == Ended(
         1, wanted.encode(), b''
     )
@@ -64,7 +68,8 @@ def test_all_fit(nonobench, folder):
 
 @pytest.mark.parametrize('others', [[], ['ring'], ['cross']])
 def test_unread(nonobench, folder, others):
-    """A file that cannot be read is told where it stands, and the status is that of a failed read."""
+    """A file that cannot be read is told where it stands, and the status is that of a failed
+    read."""
     blocks = {'ring': RING, 'cross': CROSS, 'absent': 'refused read\n'}
     names = ['absent', *others]
     head = 'puzzle {}\n' if others else ''

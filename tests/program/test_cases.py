@@ -1,8 +1,9 @@
-"""Texts of pictures, puzzles and certificates with what the program answers, as tests/cases/ has them.
+"""Texts of pictures, puzzles and certificates with what the program answers, as tests/cases/ has
+them.
 
-A line of a file is TEXT => ANSWER, where the text is written as for printf. An answer is what is written, with ` | ` between its
-lines, or `! ` and what is said. `# since VERSION` holds for the lines up to the next empty one: older programs do not know their
-words. """
+A line of a file is TEXT => ANSWER, where the text is written as for printf. An answer is what is
+written, with ` | ` between its lines, or `! ` and what is said. `# since VERSION` holds for the
+lines up to the next empty one: older programs do not know their words."""
 
 import re
 
@@ -40,7 +41,8 @@ def rows(kind):
 
 
 def answered(run, answer, hint=''):
-    """Compares how a program ended with an answer. A hint stands on a line of its own, behind what is said."""
+    """Compares how a program ended with an answer. A hint stands on a line of its own, behind what
+    is said."""
     if answer.startswith('! '):
         assert run == Ended(1, b'', f'nonobench: {answer[2:]}\n{hint}'.encode())
     else:
@@ -91,7 +93,8 @@ def published_of(place, text):
     return ['check', picture, cert, *([] if published == 'any' else ['--givens', givens])], b''
 
 
-# How a program is called for a text of each kind of case, with files in a folder: its words and its input.
+# How a program is called for a text of each kind of case, with files in a folder: its words and its
+# input.
 CALLS = {
     'pictures': lambda place, text: ([], printed(text)),
     'puzzles': puzzle_of,
@@ -103,7 +106,8 @@ CALLS = {
 
 
 def told(kind, answer):
-    """What the program must answer: of what is published, a library tells the givens, too, and they come first."""
+    """What the program must answer: of what is published, a library tells the givens, too, and they
+    come first."""
     return answer.split(' ', 1)[1] if kind == 'published' else answer
 
 
@@ -129,7 +133,8 @@ def test_case(program, kind, text, answer, tmp_path):
 
 @pytest.mark.parametrize(('text', 'answer'), rows('proved'))
 def test_proved(program, text, answer, tmp_path):
-    """What is proved of a picture, with bounds and without; where it is a certificate, that is checked with the same givens."""
+    """What is proved of a picture, with bounds and without; where it is a certificate, that is
+    checked with the same givens."""
     cells, _, named = text.partition(' ')
     picture, file = put(tmp_path, picture=picture_of(cells), givens=lines_of(named.split()))
     givens = ['--givens', file] if named else []

@@ -1,6 +1,6 @@
-"""What completions/ offers in bash and zsh, beside the program's --help: the commands, each command's options with those that take
-a value, the formats, and the files of each argument. In zsh a substitute for _arguments prints what it is passed, so no terminal is
-needed."""
+"""What completions/ offers in bash and zsh, beside the program's --help: the commands, each
+command's options with those that take a value, the formats, and the files of each argument. In zsh
+a substitute for _arguments prints what it is passed, so no terminal is needed."""
 
 import re
 import subprocess
@@ -100,7 +100,8 @@ def test_words_in_zsh(nonobench, zsh):
 
 
 def test_options_and_files_in_zsh(nonobench, zsh):
-    """An option with a value has a colon behind its text, and there are as many files as arguments."""
+    """An option with a value has a colon behind its text, and there are as many files as
+    arguments."""
     for command in commands_of(nonobench) - {'help'}:
         lines = zsh(command, '')
         known = [line.split() for line in words_of(nonobench, command)]

@@ -16,7 +16,8 @@ def said(line):
 
 
 def test_order(program, tmp_path):
-    """The picture, then the givens, then the certificate; and only what is right otherwise names a given that is not published."""
+    """The picture, then the givens, then the certificate; and only what is right otherwise names a
+    given that is not published."""
     wrong = DIAGONAL_CERT.replace('line r 2\n', '')
     assert checked(program, tmp_path, b'x', picture='P6', cert='x') == said('ppm NotP3 at byte 0')
     assert checked(program, tmp_path, b'x', cert='x') == said('givens BadLine at line 1')
@@ -26,7 +27,8 @@ def test_order(program, tmp_path):
 
 
 def test_first_given_that_is_not_published(program, tmp_path):
-    """Its line is that of the certificate. The certificate without givens needs none that are published."""
+    """Its line is that of the certificate. The certificate without givens needs none that are
+    published."""
     all_given = 'nonocert 2\ngiven 1 1\ngiven 1 2\ngiven 2 1\ngiven 2 2\ndone\n'
     assert checked(program, tmp_path, b'given 1 1\ngiven 2 2\n', cert=all_given) == said(
         'certificate UnpublishedGiven at line 3'

@@ -1,8 +1,8 @@
-"""The man page beside the program's help, docs/FORMATS.md and the code.
+"""The man page beside the program's help, docs/SESSION.md and the code.
 
-- Each command, argument and option of `--help`, and of `--help` after each command, is in the synopsis in the same place, and
-  nothing else is; each option of the synopsis has its description.
-- The commands of a session, each with its arguments, are those of the list in docs/FORMATS.md.
+- Each command, argument and option of `--help`, and of `--help` after each command, is in the
+  synopsis in the same place, and nothing else is; each option of the synopsis has its description.
+- The commands of a session, each with its arguments, are those of the list in docs/SESSION.md.
 - The names of refusals are those that sessions print.
 - Each line that can come on standard error is in both pages.
 """
@@ -26,8 +26,8 @@ def section(name, ending=r'^\.Sh'):
 
 
 def part_of_formats(words):
-    """The lines of a part of docs/FORMATS.md whose heading has some words."""
-    parts = re.split(r'(?m)(?=^## )', (ROOT / 'docs' / 'FORMATS.md').read_text())
+    """The lines of a part of docs/SESSION.md whose heading has some words."""
+    parts = re.split(r'(?m)(?=^## )', (ROOT / 'docs' / 'SESSION.md').read_text())
     return [line for part in parts if words in part.split('\n')[0] for line in part.splitlines()]
 
 

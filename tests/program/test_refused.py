@@ -1,4 +1,5 @@
-"""Each allocation, each read and each byte of output refused in turn, in the programs and in the tests of the crate `refused`."""
+"""Each allocation, each read and each byte of output refused in turn, in the programs and in the
+tests of the crate `refused`."""
 
 import os
 import subprocess
@@ -27,7 +28,8 @@ def refusing(tmp_path_factory):
 
 @pytest.fixture(scope='session')
 def refused_tests(shared):
-    """The tests of the crate as `rt test` builds them. Behind `rt ci` that takes seconds; elsewhere it might prove everything."""
+    """The tests of the crate as `rt test` builds them. Behind `rt ci` that takes seconds; elsewhere
+    it might prove everything."""
     tests = CRATE / 'out' / 'refused_tests'
     if os.environ.get('LEFT') != '1':
         return needs_file(tests, 'rt test')
@@ -45,8 +47,9 @@ def refused_tests(shared):
 @pytest.mark.compiler
 @pytest.mark.parametrize('subject', SUBJECTS)
 def test_growths_of_the_library(refusing, refused_tests, subject):
-    """A test of the crate passes each time, until there is no further allocation: each refused call answers that memory ran out,
-    leaves what it borrowed as it was, and answers when it is called again."""
+    """A test of the crate passes each time, until there is no further allocation: each refused call
+    answers that memory ran out, leaves what it borrowed as it was, and answers when it is called
+    again."""
     for number in range(1, MOST):
         env = {**os.environ, 'REFUSED': str(number), 'LD_PRELOAD': str(refusing)}
         run = subprocess.run(

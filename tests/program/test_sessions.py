@@ -1,12 +1,13 @@
 """Runs sessions and compares what they print with the texts beside them.
 
-NAME.session is run on NAME.ppm or NAME.non, with the background in NAME.background and the depth in NAME.history, if there are such
-files. If a line of NAME.out is two texts with ` or ` between them, either of them is right. NAME.since has the version since which
-there are such words.
+NAME.session is run on NAME.ppm or NAME.non, with the background in NAME.ppm.background and the
+depth in NAME.history, if there are such files. If a line of NAME.out is two texts with ` or `
+between them, either of them is right. NAME.since has the version since which there are such words.
 
-A session that ends with `certify` prints a certificate last, and which one is not determined. So the text before it is compared,
-and the certificate is checked with the picture that `write ppm` printed before it: the certificate that the program prints and the
-one in NAME.out must both be accepted, with the same number of givens. """
+A session that ends with `certify` prints a certificate last, and which one is not determined. So
+the text before it is compared, and the certificate is checked with the picture that `write ppm`
+printed before it: the certificate that the program prints and the one in NAME.out must both be
+accepted, with the same number of givens."""
 
 import re
 
@@ -29,14 +30,15 @@ def words_of(file):
     """The words of the picture or puzzle of a session, and those of its background."""
     picture = file.with_suffix('.ppm')
     words = [picture] if picture.exists() else [file.with_suffix('.non'), '--format', 'non']
-    history, background = file.with_suffix('.history'), file.with_suffix('.background')
+    history, background = file.with_suffix('.history'), file.with_suffix('.ppm.background')
     if history.exists():
         words += ['--history', history.read_text().strip()]
     return words, ['--background', background.read_text().strip()] if background.exists() else []
 
 
 def cut(text):
-    """What a text has before its certificate, the picture at the end of that, and the certificate."""
+    """What a text has before its certificate, the picture at the end of that, and the
+    certificate."""
     begins = re.search(r'(?m)^nonocert ', text)
     front, cert = (text[: begins.start()], text[begins.start() :]) if begins else (text, '')
     picture = re.search(r'(?ms)^P3$.*', front)
@@ -44,7 +46,8 @@ def cut(text):
 
 
 def chosen(wanted, got):
-    """The wanted lines: of two texts in one line the one that was printed there, if it is one of them."""
+    """The wanted lines: of two texts in one line the one that was printed there, if it is one of
+    them."""
     printed = got.split('\n')
     for at, line in enumerate(wanted.split('\n')):
         one, both, other = line.partition(' or ')

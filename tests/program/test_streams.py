@@ -1,4 +1,5 @@
-"""Streams that fail or end: no room, no output, nobody who reads, a folder as input, and the longest inputs."""
+"""Streams that fail or end: no room, no output, nobody who reads, a folder as input, and the
+longest inputs."""
 
 import subprocess
 
@@ -24,7 +25,7 @@ def native(program):
 # What is written where there is no room: the words that ask for it, and the input.
 ROOMLESS = [
     ([], PIXEL),
-    (['check', EXAMPLES / 'diagonal.ppm', EXAMPLES / 'diagonal.cert'], b''),
+    (['check', EXAMPLES / 'diagonal.ppm', EXAMPLES / 'diagonal.ppm.cert'], b''),
     (['work', EXAMPLES / 'diagonal.ppm'], b'clues\n'),
     *((words.split(), b'') for words in ('--help', '--version', 'work --help', 'check --help')),
 ]
@@ -97,7 +98,8 @@ def test_a_session_that_reads_a_folder(program, tmp_path):
 
 
 def test_more_bytes_than_a_session_may_make_reads(program, tmp_path):
-    """A session ends after 1,048,576 reads, and each takes more than a byte where more are there."""
+    """A session ends after 1,048,576 reads, and each takes more than a byte where more are
+    there."""
     (tmp_path / 'file').write_bytes(PIXEL)
     (tmp_path / 'lines').write_bytes(b'\n' * 1048577 + b'undo\n')
     with open(tmp_path / 'lines', 'rb') as lines:

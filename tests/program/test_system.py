@@ -1,10 +1,12 @@
-"""What the program asks of the system. No clause says which file the toolchain opens, or how often it is asked."""
+"""What the program asks of the system. No clause says which file the toolchain opens, or how often
+it is asked."""
 
 import re
 
 from tried import ROOT, ended
 
-# The calls in the code of the crate nonobench: a file is opened by the name that was given, once, and each read is made once.
+# The calls in the code of the crate nonobench: a file is opened by the name that was given, once,
+# and each read is made once.
 CALLS = [
     'env::args(rt)',
     'fs::open(self.rt, path)',

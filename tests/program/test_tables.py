@@ -1,6 +1,7 @@
 """Runs the tables of library calls and compares what is printed with what they expect.
 
-A line of a table is a call; the lines below it that begin with `= ` have what the program must print; `#` begins a comment.
+A line of a table is a call; the lines below it that begin with `= ` have what the program must
+print; `#` begins a comment.
 """
 
 import re

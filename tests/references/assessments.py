@@ -1,15 +1,19 @@
 #!/usr/bin/env python3
-"""Asks a built library for assessments and paths, and compares each line: tests/references/assessments.py LIBRARY [assess] [path] [PART ..]
+"""Asks a built library for assessments and paths, and compares each line:
+tests/references/assessments.py LIBRARY [assess] [path] [PART ..]
 
-If neither `assess` nor `path` is named, both are asked for. The parts, all of which are tried if none is named:
+If neither `assess` nor `path` is named, both are asked for. The parts, all of which are tried if
+none is named:
 
-- givens: all pictures of some sizes with all sets of givens. A listing of all pictures says which of them have one solution.
+- givens: all pictures of some sizes with all sets of givens. A listing of all pictures says which
+  of them have one solution.
 - lot: pictures with givens by lot, of a size that has too many; by the same kind of listing.
-- documents: random documents up to six by six, with palettes whose colours may be too similar, some under an allowance. Without one, a
-  listing of the pictures that the map leaves says what is unique.
+- documents: random documents up to six by six, with palettes whose colours may be too similar, some
+  under an allowance. Without one, a listing of the pictures that the map leaves says what is
+  unique.
 
-All other lines are those of tests/references/reference. Free are the other picture, which must be one, and splits and depth, which
-must be possible and fit the word.
+All other lines are those of tests/references/reference. Free are the other picture, which must be
+one, and splits and depth, which must be possible and fit the word.
 """
 import ctypes
 import itertools
@@ -25,14 +29,14 @@ from reference.assessments import Assessment, Solving, by_listing  # noqa: E402
 from reference.lines import clues_of, letter, settled  # noqa: E402
 from reference.pictures import Document, read_ppm, write_ppm  # noqa: E402
 from reference.search import TooMuch, open_cells  # noqa: E402
-from reference.sessions import (
+from reference.sessions import (  # noqa: E402
     Disagreement,
     Output,
     Session,
     agree,
     must_assess,
     picture_rows,
-)  # noqa: E402
+)
 from small_pictures import TRIPLES, Listing, blank_ppm, key_of  # noqa: E402
 
 GIVENS = ((2, 2, 3), (2, 3, 3), (3, 3, 2))  # height, width, colours
@@ -91,7 +95,8 @@ class Library:
 
 
 class Way:
-    """Goes in one session from a document of a size to another, and asks for assessment and path of each."""
+    """Goes in one session from a document of a size to another, and asks for assessment and path of
+    each."""
 
     def __init__(self, library, asks, height, width, colours):
         self.library, self.asks = library, asks
@@ -119,7 +124,8 @@ class Way:
         self.rows, self.givens = rows, givens
 
     def ask(self, others, named):
-        """Asks for assessment and path; `others` are the other pictures with the clues, each with the cells in which it differs."""
+        """Asks for assessment and path; `others` are the other pictures with the clues, each with
+        the cells in which it differs."""
         givens, document = self.givens, Document(255, self.colours, self.rows, self.givens)
 
         def verdict(chosen):
@@ -150,7 +156,8 @@ class Way:
         self.asked.append(judge)
 
     def others(self, rows):
-        """The other pictures with a picture's clues, as they are printed, each with the cells in which it differs."""
+        """The other pictures with a picture's clues, as they are printed, each with the cells in
+        which it differs."""
         same = self.listing.by_clues[key_of(clues_of(rows))]
         return {
             tuple(picture_rows(other)): frozenset(
@@ -169,7 +176,8 @@ class Way:
                 judge(output)
             except Disagreement as found:
                 raise Disagreement(
-                    f'{found}, near {said[max(0, output.at - 200):output.at + 100].decode("latin-1")!r}'
+                    f'{found}, near'
+                    f' {said[max(0, output.at - 200):output.at + 100].decode("latin-1")!r}'
                 ) from None
         output.end()
         self.lines, self.asked = [], []
@@ -222,9 +230,8 @@ def some_samples(chance, maxval, near):
     """A colour by lot, often one that is near another."""
     if near is None or chance.random() < 0.4:
         return tuple(chance.randint(0, maxval) for _ in range(3))
-    far = (
-        chance.choice((2, 130, 5140, 10280)) * maxval // 65535 + 1
-    )  # as many 65535ths: a half, ten and twenty 255ths
+    # as many 65535ths: a half, ten and twenty 255ths
+    far = chance.choice((2, 130, 5140, 10280)) * maxval // 65535 + 1
     return tuple(min(max(sample + chance.randint(-far, far), 0), maxval) for sample in near)
 
 
@@ -245,8 +252,8 @@ def some_document(chance):
 
 
 def some_picture(chance, colours):
-    """The rows of a picture by lot: of any, of one that lines leave open, or of one that they leave open and that has no other, if
-    there is one among those that are drawn."""
+    """The rows of a picture by lot: of any, of one that lines leave open, or of one that they leave
+    open and that has no other, if there is one among those that are drawn."""
     drawn, wanted = chance.choice(
         ((1, 'any'), (1, 'any'), (20, 'open'), (20, 'open'), (40, 'unique'))
     )
@@ -323,7 +330,8 @@ def main(path, *words):
     for part in [part for part in PARTS if part in words] or PARTS:
         try:
             print(
-                f'{part}: {PARTS[part](library, asks)} documents are answered as the reference says ({" and ".join(asks)})'
+                f'{part}: {PARTS[part](library, asks)} documents are answered as the reference says'
+                f' ({" and ".join(asks)})'
             )
         except (Disagreement, TooMuch) as wrong:
             print(f'{part}: {wrong}', file=sys.stderr)
@@ -334,6 +342,7 @@ def main(path, *words):
 if __name__ == '__main__':
     if len(sys.argv) < 2 or not set(sys.argv[2:]) <= {*ASKS, *PARTS}:
         sys.exit(
-            'usage: tests/references/assessments.py LIBRARY [assess] [path] [givens|lot|documents ..]'
+            'usage: tests/references/assessments.py LIBRARY [assess] [path]'
+            ' [givens|lot|documents ..]'
         )
     sys.exit(main(*sys.argv[1:]))

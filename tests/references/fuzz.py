@@ -1,11 +1,13 @@
 #!/usr/bin/env python3
-"""Fuzzes the program with P3 texts, certificates, and, if it has sessions, with commands and .non texts, made and changed at random
-from a seed, and compares each run with the plain reference, by meaning: clues, map, verdict, assessment, first error and its place,
-each reason and each certificate. A case in which they disagree is kept as files in a folder, and the status is then 1.
+"""Fuzzes the program with P3 texts, certificates, and, if it has sessions, with commands and .non
+texts, made and changed at random from a seed, and compares each run with the plain reference, by
+meaning: clues, map, verdict, assessment, first error and its place, each reason and each
+certificate. A case in which they disagree is kept as files in a folder, and the status is then 1.
 
-Usage: tests/references/fuzz.py SECONDSs|CASES SEED [KIND ..] [NUMBER] (fuzz.py 60s 1; fuzz.py 100000 1), where KIND is clues,
-check, work, non or assess (all that the program takes), and NUMBER is the case to begin with: a case is a function of the seed and its
-number. PROGRAM names another program than the proved one, FUZZ_FOLDER the folder for disagreements. """
+Usage: tests/references/fuzz.py SECONDSs|CASES SEED [KIND ..] [NUMBER] (fuzz.py 60s 1; fuzz.py
+100000 1), where KIND is clues, check, work, non or assess (all that the program takes), and NUMBER
+is the case to begin with: a case is a function of the seed and its number. PROGRAM names another
+program than the proved one, FUZZ_FOLDER the folder for disagreements."""
 import os
 import random
 import signal
@@ -104,7 +106,8 @@ def non_case(chance):
 
 
 def assess_case(chance):
-    """A picture to be assessed, with published givens, a certificate, or an allowance; or several puzzles."""
+    """A picture to be assessed, with published givens, a certificate, or an allowance; or several
+    puzzles."""
     if chance.random() < 0.3:
         return several_case(chance)
     (text, cert, published), background = chance.choice(plain_forms.seeded(chance, 8)), (0, 0, 0)
@@ -138,7 +141,8 @@ def several_case(chance):
 
 
 def assessing(chance, puzzles):
-    """The assessment of puzzles, all of one format and with one background. A file is there only where it has a text."""
+    """The assessment of puzzles, all of one format and with one background. A file is there only
+    where it has a text."""
     first, allowance = puzzles[0], chance.choice((None, None, None, 0, 1, 5))
     names = [
         'absent' if puzzle.text is None else f'puzzle{number}'
@@ -236,8 +240,9 @@ class Fuzzer:
         for (kind, end), count in sorted(self.ends.items()):
             print(f'{kind}: {end}: {count}')
         print(
-            f'{done} cases, seed {self.seed}, {done / took:.0f} cases a second; program and reference disagree in '
-            f'{self.kept}' + (f', kept in {self.folder}' if self.kept else '')
+            f'{done} cases, seed {self.seed}, {done / took:.0f} cases a second; program and'
+            f' reference disagree in {self.kept}'
+            + (f', kept in {self.folder}' if self.kept else '')
         )
 
 

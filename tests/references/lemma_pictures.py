@@ -1,9 +1,11 @@
 #!/usr/bin/env python3
-"""Certificates with lemmas of all small pictures, by a built `lemma_tables`: tests/references/lemma_pictures.py PROGRAM [SEED]
+"""Certificates with lemmas of all small pictures, by a built `lemma_tables`:
+tests/references/lemma_pictures.py PROGRAM [SEED]
 
-Brute force over all pictures of a size says which of them are unique. Each of these must get a certificate that the checker of
-plain_forms.py accepts, and each other one is ambiguous. The program's checker must accept the same certificates. Then it gets those of
-other pictures with lines changed at random: it must accept those that the plain checker accepts.
+Brute force over all pictures of a size says which of them are unique. Each of these must get a
+certificate that the checker of plain_forms.py accepts, and each other one is ambiguous. The
+program's checker must accept the same certificates. Then it gets those of other pictures with lines
+changed at random: it must accept those that the plain checker accepts.
 """
 import random
 import subprocess
@@ -83,7 +85,8 @@ class Trial:
             print(f'FAILED: {why}')
 
     def checked(self, pairs, unique):
-        """Compares what both checkers say of pictures with certificates, which only unique ones can have. How many are taken."""
+        """Compares what both checkers say of pictures with certificates, which only unique ones can
+        have. How many are taken."""
         lines = [
             f'{name} {self.file(f"proof{at}", text)}' for at, (name, _, text) in enumerate(pairs)
         ]
@@ -141,7 +144,8 @@ def main():
         ]
         taken = trial.checked(others, unique)
     print(
-        f'{len(pictures)} pictures, {len(proved)} proofs, {taken} of {len(others)} others taken, {trial.failed} failed'
+        f'{len(pictures)} pictures, {len(proved)} proofs, {taken} of {len(others)} others taken,'
+        f' {trial.failed} failed'
     )
     return 1 if trial.failed or taken == len(others) else 0
 

@@ -1,9 +1,9 @@
 #!/usr/bin/env python3
-"""A checker of certificates in all four forms, written from docs/FORMATS.md and docs/GLOSSARY.md alone, and so independent of
-tests/references/reference/.
+"""A checker of certificates in all four forms, written from docs/FILE-FORMATS.md alone, and so
+independent of tests/references/reference/.
 
-Usage: plain_forms.py PROGRAM [SEED [COUNT]]: compares it with a built `cert_tables` on seeded texts, and ends with status 1 at the
-first difference.
+Usage: plain_forms.py PROGRAM [SEED [COUNT]]: compares it with a built `cert_tables` on seeded
+texts, and ends with status 1 at the first difference.
 """
 
 import functools
@@ -33,7 +33,7 @@ class Fault(Exception):
 # Pictures: a list of rows of colour numbers.
 
 
-def read_p3(data):
+def read_p3(data):  # noqa: C901, each error at its place
     """The picture of a P3 text whose background is white."""
     if not re.match(rb'P3(\s|#|\Z)', data):
         raise Fault('NotP3', 0)
@@ -92,10 +92,11 @@ def clue_of(line):
 
 @functools.cache
 def forces(clue, left):
-    """The colours of each cell in the lists that have the clue and keep to the colours left; None if there is no such list.
+    """The colours of each cell in the lists that have the clue and keep to the colours left; None
+    if there is no such list.
 
-    A list walks through `path`: background, the cells of a block, background, and so on. It may stay on background, and step over
-    it where two blocks may touch.
+    A list walks through `path`: background, the cells of a block, background, and so on. It may
+    stay on background, and step over it where two blocks may touch.
     """
     path = [0]
     for length, colour in clue:
@@ -131,7 +132,8 @@ def forces(clue, left):
 
 
 class Puzzle:
-    """A picture with its clues; a place of a certificate is a list of masks, the colours left in each cell."""
+    """A picture with its clues; a place of a certificate is a list of masks, the colours left in
+    each cell."""
 
     def __init__(self, picture):
         self.rows, self.columns = len(picture), len(picture[0])
@@ -238,8 +240,8 @@ def read_certificate(data):
 
 
 class Tree:
-    """Where a `nonocert` is: `places` are the branches that have not ended, the one at hand last; `nests` says in how many splits
-    each of them stands."""
+    """Where a `nonocert` is: `places` are the branches that have not ended, the one at hand last;
+    `nests` says in how many splits each of them stands."""
 
     def __init__(self, puzzle, facts):
         self.puzzle, self.places, self.nests = puzzle, [facts], [0]
@@ -284,7 +286,8 @@ class Tree:
 
 
 class Lemmas(Tree):
-    """Where a `nonolemma` is: at a place with the lemma that is kept when it is at hand again, if there is one."""
+    """Where a `nonolemma` is: at a place with the lemma that is kept when it is at hand again, if
+    there is one."""
 
     def __init__(self, puzzle, facts):
         super().__init__(puzzle, facts)
@@ -293,7 +296,7 @@ class Lemmas(Tree):
     def end(self):
         self.places.pop()
 
-    def step(self, name, *words):
+    def step(self, name, *words):  # noqa: C901, a case for each form of a line
         may_deny, self.may_deny = self.may_deny, name in ('lemma', 'deny')
         if not self.places:
             return 'Trailing'
@@ -352,8 +355,8 @@ def start(puzzle, form, givens):
 
 
 def check(puzzle, data, published=None):
-    """How many givens a right certificate has, how many splits, and how deep they stand: in a tree, how many stand in each other; with
-    lemmas, parts and lemmas, and the most that waits."""
+    """How many givens a right certificate has, how many splits, and how deep they stand: in a tree,
+    how many stand in each other; with lemmas, parts and lemmas, and the most that waits."""
     form, givens, steps, lines = read_certificate(data)
     cells = [puzzle.cell(*given) for given in givens]
     if None in cells:
@@ -402,14 +405,15 @@ def answer(picture, certificate, published=None):
     return f'accepted{f", givens {givens}" if givens else ""}, splits {splits}, depth {depth}'
 
 
-# Texts: certificates from walks through the checker itself, mostly along right steps; then the same with changes.
+# Texts: certificates from walks through the checker itself, mostly along right steps; then the same
+# with changes.
 
 ODD = """
 done|lemma|dead l 0|dead l 1|use 1|use 0|use 65535|use 65536|drop 1|drop 2|drop 1 1|line r 1|line r1|line r1 c1|line r1 c0|line r5|line r 5
 line|use|drop|dead r 1|dead c 1|dead r1|dead r 0|split 1 1|split 0 1|split 1 9|part 1 1 .|part 1 1 .a|part 1 1 a.|part 1 1 aa|part 1 1 p
 part 1 1 bo|part 0 1 a|part 1 1|deny 1 1 .|deny 9 1 a|deny 1 1 .abcdefghijklmno|given 1 1|given 0 1|given 2 1|done |DONE|line r 01|line r 1000
 split 1 1\r|use 00|use 1 2 3|line c1 r1 c1|line  r1|line r1 |dead l 70000|\xff|\x00||nonocert 1
-"""
+"""  # noqa: E501
 ODD = [line for row in ODD[1:-1].split('\n') for line in row.split('|')]
 
 
@@ -627,7 +631,8 @@ def shown(rows):
 
 
 def worked():
-    """The texts of tests/cases, with the answers that are written there, and with the figures of those that are graded."""
+    """The texts of tests/cases, with the answers that are written there, and with the figures of
+    those that are graded."""
     for kind in ('certificates', 'lemmas'):
         for line in (Path(__file__).parents[1] / 'cases' / f'{kind}.case').read_text().splitlines():
             if line and line[0] != '#':
@@ -646,7 +651,8 @@ def worked():
 
 
 def longest():
-    """The deepest, longest and fullest texts with their answers, which the plain checker would take long to find."""
+    """The deepest, longest and fullest texts with their answers, which the plain checker would take
+    long to find."""
 
     def lines(form, *parts):
         return b'\n'.join([form, *(line for part, count in parts for line in part * count)])
@@ -658,7 +664,8 @@ def longest():
     )
     form, deny, depth, many, cells = b'nonolemma 1', b'deny 1 1 a', 600_000, 700_000, 40 * 40
     full = [b'lemma', *[deny] * 1024, *dies] * 64
-    # All branches of the splits but the first end in a row in which a cell has a colour that the row does not have.
+    # All branches of the splits but the first end in a row in which a cell has a colour that the
+    # row does not have.
     splits = [b'split %d %d' % (i % cells // 40 + 1, i % 40 + 1) for i in range(100_000)], 1
     ends = [b'done', *[b'dead r %d' % (40 - i // 15 // 40) for i in range(15 * cells)]]
     two, blank = shown('a./.b'), shown('/'.join(['.' * 40] * 40))

@@ -1,10 +1,12 @@
 #!/usr/bin/env python3
-"""Tries the ladder of searches on all small pictures, within bounds so small that each search answers: tests/references/small_bounds.py PROGRAM ..
+"""Tries the ladder of searches on all small pictures, within bounds so small that each search
+answers: tests/references/small_bounds.py PROGRAM ..
 
-The programs are builds of the crate `search_tables`, which are asked by its call `within`. All pictures of three by three and of two
-by four cells in two colours, and a sample of those in three, are judged and certified, with and without givens, within several
-bounds. Brute force over all pictures says what each answer must be; the plain checker of tests/references/reference must accept each
-certificate.
+The programs are builds of the crate `search_tables`, which are asked by its call `within`. All
+pictures of three by three and of two by four cells in two colours, and a sample of those in three,
+are judged and certified, with and without givens, within several bounds. Brute force over all
+pictures says what each answer must be; the plain checker of tests/references/reference must accept
+each certificate.
 """
 import functools
 import itertools
@@ -27,9 +29,10 @@ SAMPLES = (
     (2, 4, 2, 1),
     (3, 3, 3, 41),
 )  # height, width, colours, and each so manieth picture is tried
-# Splits of the fixed order, and when it is begun anew, splits in a window, conflicts of a search with lemmas, evaluations of a tree at
-# first. Those of the program; windows first; lemmas first; trees alone, with a bound that each keeps; one that grows; one that cannot
-# grow, so that the last tree is written without a bound.
+# Splits of the fixed order, and when it is begun anew, splits in a window, conflicts of a search
+# with lemmas, evaluations of a tree at first. Those of the program; windows first; lemmas first;
+# trees alone, with a bound that each keeps; one that grows; one that cannot grow, so that the last
+# tree is written without a bound.
 PROGRAMS, WINDOWS, LEMMAS = (
     (100, 500, 64, 100000, 10000),
     (0, 0, 64, 0, 10000),
@@ -86,7 +89,8 @@ def accept(rows, givens, text):
 
 
 def compare(bounds, case, told, cert):
-    """What is told of a picture within bounds; its splits and evaluations, or None where no part is open."""
+    """What is told of a picture within bounds; its splits and evaluations, or None where no part is
+    open."""
     rows, givens, others = case
     found = TOLD.fullmatch(told)
     agree(found is not None, f'{told} was answered')
@@ -104,7 +108,8 @@ def compare(bounds, case, told, cert):
 
 
 class Work:
-    """What was searched within each of the bounds: how many pictures, with how many splits and evaluations."""
+    """What was searched within each of the bounds: how many pictures, with how many splits and
+    evaluations."""
 
     def __init__(self):
         self.by_kind = {}
@@ -125,7 +130,8 @@ class Work:
             )
             agree(done[LEMMAS][2] != done[TREES][2], 'lemmas answered nothing')
             spent = [done[bounds][2] for bounds in (PROGRAMS, WINDOWS, TREES, GROWING, LAST)]
-            # A tree that is broken off stops at its bound, so those before the last one may cost less than one that suffices.
+            # A tree that is broken off stops at its bound, so those before the last one may cost
+            # less than one that suffices.
             agree(len(set(spent)) == len(spent), f'evaluations within the bounds: {spent}')
 
 

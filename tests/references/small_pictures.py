@@ -1,11 +1,14 @@
 #!/usr/bin/env python3
-"""Tries built programs on all small pictures and puzzles: tests/references/small_pictures.py PROGRAM ..
+"""Tries built programs on all small pictures and puzzles: tests/references/small_pictures.py
+PROGRAM ..
 
-Brute force over all pictures of a size says what each answer must be, and tests/references/reference answers each session again. Strokes: from
-every picture of a size, each cell is painted in each colour, and the stroke undone; verdict, other picture, clues and map are
-compared after each. Givens: every set of given cells, with its verdict and its certificate. Puzzles: every list of clues of a size,
-without a goal, which opens as a picture if there is one. One session goes through many pictures; what a second program prints is
-compared again only where it differs from what the first one printed.
+Brute force over all pictures of a size says what each answer must be, and
+tests/references/reference answers each session again. Strokes: from every picture of a size, each
+cell is painted in each colour, and the stroke undone; verdict, other picture, clues and map are
+compared after each. Givens: every set of given cells, with its verdict and its certificate.
+Puzzles: every list of clues of a size, without a goal, which opens as a picture if there is one.
+One session goes through many pictures; what a second program prints is compared again only where it
+differs from what the first one printed.
 """
 import itertools
 import subprocess
@@ -129,7 +132,8 @@ class Talk:
         self.ask('map', lambda output: output.must_lines(*shown))
 
     def certify(self):
-        """A certificate exactly where there is no other picture, with exactly the givens, and a proof for the plain checker."""
+        """A certificate exactly where there is no other picture, with exactly the givens, and a
+        proof for the plain checker."""
         rows = [list(row) for row in self.rows]
         givens = sorted(self.givens)
         others = self.listing.others(rows, givens)
@@ -203,7 +207,8 @@ def runs_of(programs, folder, text, lines, words):
 
 
 def steps_through(radix, digits):
-    """A way through all numbers of so many digits, each step in one digit: the digit and its new value."""
+    """A way through all numbers of so many digits, each step in one digit: the digit and its new
+    value."""
     at, rise = [0] * digits, [1] * digits
     while True:
         for digit in range(digits):
@@ -270,7 +275,8 @@ def line_clues(length):
 
 
 def judge_puzzle(run, text, pictures, goal_line):
-    """A puzzle is opened exactly where it has a picture, as one of its pictures, and unique where it has one alone."""
+    """A puzzle is opened exactly where it has a picture, as one of its pictures, and unique where
+    it has one alone."""
     agree(
         (run.status == 0) == bool(pictures),
         f'{text!r} ends with {run.status}, and the pictures are {pictures}',
@@ -328,7 +334,8 @@ def main(programs):
             print(wrong, file=sys.stderr)
             return 1
     print(
-        f'{strokes} strokes, {givens} sets of givens and {puzzles} puzzles without a goal as a listing says'
+        f'{strokes} strokes, {givens} sets of givens and {puzzles} puzzles without a goal as a'
+        ' listing says'
     )
     return 0
 

@@ -1,4 +1,5 @@
-"""The programs beside a plain reference in Python and brute force over all small pictures, each by a program of its own."""
+"""The programs beside a plain reference in Python and brute force over all small pictures, each by
+a program of its own."""
 
 import sys
 from pathlib import Path
@@ -36,7 +37,8 @@ def test_small_bounds(kept):
     ('script', 'tables'), [('lemma_pictures.py', 'lemma_tables'), ('plain_forms.py', 'cert_tables')]
 )
 def test_certificates(kept, script, tables, kind):
-    """With lemmas; and of all forms, with and without published givens, against a checker that was written from the documents alone."""
+    """With lemmas; and of all forms, with and without published givens, against a checker that was
+    written from the documents alone."""
     compares(script, needs_file(kept.program(f'{tables}{kind}'), 'rt ci'))
 
 

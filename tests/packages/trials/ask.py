@@ -1,4 +1,5 @@
-"""Checks a certificate by the package for Python, with the cells that are published: ask.py PICTURE CERTIFICATE [ROW,COLUMN ..].
+"""Checks a certificate by the package for Python, with the cells that are published: ask.py PICTURE
+CERTIFICATE [ROW,COLUMN ..].
 
 It prints what c/example.c prints, and has its exit statuses.
 """

@@ -2,8 +2,9 @@
 
 Usage, in the folder tests/references: python3 -m reference PICTURE.ppm CERTIFICATE [R,G,B]
 
-R,G,B is the background, white if none is named. It prints what `nonobench check` prints, without the name of the program, and ends
-with its status: 0 if the certificate is accepted, 1 if it is refused, 2 if the arguments are wrong, 3 if a file cannot be read.
+R,G,B is the background, white if none is named. It prints what `nonobench check` prints, without
+the name of the program, and ends with its status: 0 if the certificate is accepted, 1 if it is
+refused, 2 if the arguments are wrong, 3 if a file cannot be read.
 """
 import re
 import sys

@@ -1,6 +1,8 @@
-"""Whether a puzzle is fit to be published: the path of line logic, the grade, the flaws, and the text that says all this.
+"""Whether a puzzle is fit to be published: the path of line logic, the grade, the flaws, and the
+text that says all this.
 
-A verdict is handed in as a call: for a set of givens it answers 'unique', 'ambiguous' or 'undecided'.
+A verdict is handed in as a call: for a set of givens it answers 'unique', 'ambiguous' or
+'undecided'.
 """
 import re
 from functools import lru_cache
@@ -29,12 +31,14 @@ open N
 
 
 def read_assessment(text, at=0):
-    """The assessment at a place of a text, or None: the rows of the other picture, the splits and the depth are named."""
+    """The assessment at a place of a text, or None: the rows of the other picture, the splits and
+    the depth are named."""
     return TEXT.match(text, at)
 
 
 class Solving:
-    """Line logic on a picture with givens, look by look: the figures, the path, and in the end the colours left."""
+    """Line logic on a picture with givens, look by look: the figures, the path, and in the end the
+    colours left."""
 
     def __init__(self, rows, givens):
         height, self.width = len(rows), len(rows[0])
@@ -157,8 +161,8 @@ def by_listing(rows):
 
 
 class Assessment:
-    """What is said of a document. With a certificate, which the checker must accept with the givens as published, nothing is searched,
-    and `verdict` is not called."""
+    """What is said of a document. With a certificate, which the checker must accept with the givens
+    as published, nothing is searched, and `verdict` is not called."""
 
     def __init__(self, document, named, verdict, certificate=None):
         self.document = document
@@ -174,8 +178,9 @@ class Assessment:
             self.word, self.guesses = 'unique', guesses_of(document, certificate)
 
     def lines(self, other=(), guesses=None):
-        """All lines. `other` are the rows of another picture, and `guesses` the splits and the depth of the certificate from which the
-        grade is taken, if one is found; each counts only where it is asked for."""
+        """All lines. `other` are the rows of another picture, and `guesses` the splits and the
+        depth of the certificate from which the grade is taken, if one is found; each counts only
+        where it is asked for."""
         return [
             self.word,
             *(other if self.word == 'ambiguous' else ()),
@@ -228,7 +233,8 @@ class Assessment:
         ]
 
     def given(self):
-        """The first given without which there is still one solution, or else the first for which that is left open."""
+        """The first given without which there is still one solution, or else the first for which
+        that is left open."""
         givens = self.document.givens
         left_open = []
         for row, col in sorted(givens):
@@ -251,7 +257,8 @@ class Assessment:
 
 
 def guesses_of(document, certificate):
-    """The splits of a certificate that proves a document with its givens, and their depth; or the certificate's fault."""
+    """The splits of a certificate that proves a document with its givens, and their depth; or the
+    certificate's fault."""
     published = {(row + 1, col + 1) for row, col in document.givens}
     return plain_forms.check(plain_forms.Puzzle(document.ordered().rows), certificate, published)[
         1:

@@ -129,7 +129,8 @@ def line_text(line):
 
 
 def some_cert(rows, givens, chance, most=60):
-    """A certificate's text, written by chance; it proves the picture where it can, and may end too early."""
+    """A certificate's text, written by chance; it proves the picture where it can, and may end too
+    early."""
     walk = Walk(rows, givens)
     text = ['nonocert 2' if givens or chance.random() < 0.2 else 'nonocert 1']
     text += [f'given {row + 1} {col + 1}' for row, col in sorted(givens)]

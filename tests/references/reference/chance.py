@@ -1,4 +1,5 @@
-"""Pictures, texts and sessions made by chance, right ones and ones with faults. `chance` is a seeded random.Random."""
+"""Pictures, texts and sessions made by chance, right ones and ones with faults. `chance` is a
+seeded random.Random."""
 import re
 
 from .certificates import some_cert
@@ -64,7 +65,8 @@ GAPS = [
 
 
 def some_rows(chance, most, colours):
-    """The rows of a picture of up to `most` cells a side, often one that has others with its clues."""
+    """The rows of a picture of up to `most` cells a side, often one that has others with its
+    clues."""
     height, width = chance.randint(1, most), chance.randint(1, most)
     style = chance.random()
     full = chance.random()
@@ -92,7 +94,8 @@ def some_rows(chance, most, colours):
 
 
 def some_corners(chance, most, colours):
-    """Squares of two by two down the diagonal, each with two equal corners: each can be turned over by itself."""
+    """Squares of two by two down the diagonal, each with two equal corners: each can be turned over
+    by itself."""
     count = chance.randint(1, max(1, most // 2))
     rows = [[0] * (2 * count) for _ in range(2 * count)]
     for at in range(0, 2 * count, 2):
@@ -281,7 +284,8 @@ def some_non(chance, most):
 
 
 def some_check(chance, most, colours):
-    """A picture, a certificate and a background for a check: two texts and three samples or None."""
+    """A picture, a certificate and a background for a check: two texts and three samples or
+    None."""
     rows, triples, text = some_ppm(chance, most, colours)
     height, width = len(rows), len(rows[0])
     share = chance.choice((0, 0, 0.1, 0.4))
@@ -293,7 +297,8 @@ def some_check(chance, most, colours):
 
 
 def other_tree(chance, cert, height, width):
-    """A certificate with one line of the tree put in, taken out or exchanged for another lawful one."""
+    """A certificate with one line of the tree put in, taken out or exchanged for another lawful
+    one."""
     lines = cert.split(b'\n')
     at = chance.randrange(1, max(2, len(lines)))
     row, col = chance.randint(0, height + 1), chance.randint(0, width + 1)
@@ -337,7 +342,8 @@ def some_triple(chance, triples):
 
 
 def some_command(chance, height, width, triples, heed):
-    """A command of a session; where verdicts are heeded, one that moves a verdict or asks for it."""
+    """A command of a session; where verdicts are heeded, one that moves a verdict or asks for
+    it."""
 
     def row():
         return some_place(chance, height)

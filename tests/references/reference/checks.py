@@ -1,4 +1,5 @@
-"""What a check of a certificate answers: trees by the reader of this folder, and certificates with lemmas by that of plain_forms.py."""
+"""What a check of a certificate answers: trees by the reader of this folder, and certificates with
+lemmas by that of plain_forms.py."""
 import plain_forms
 
 from .certificates import check_cert, read_cert

@@ -1,4 +1,5 @@
-"""Edits of a document, their refusals, and the history along which they are undone and made again."""
+"""Edits of a document, their refusals, and the history along which they are undone and made again.
+"""
 from .faults import Fault
 from .pictures import MAX_COLOURS, MAX_SIDE
 

@@ -1,6 +1,7 @@
 """One line and its clue: what fits, what is forced, and what all lines settle together.
 
-A clue is a tuple of (length, colour). A line is told as (axis, number), axis 'r' or 'c', numbers from 0.
+A clue is a tuple of (length, colour). A line is told as (axis, number), axis 'r' or 'c', numbers
+from 0.
 """
 from functools import lru_cache
 
@@ -89,7 +90,8 @@ def narrow_by_listing(clue, masks):
 
 
 def moves_from(clue, masks, ends, i, b):
-    """The ways on from cell i with block b to come: the next cell and block, and the cells that each way colours."""
+    """The ways on from cell i with block b to come: the next cell and block, and the cells that
+    each way colours."""
     length = len(masks)
     ways = []
     if i < length and masks[i] & 1:
@@ -107,7 +109,8 @@ def moves_from(clue, masks, ends, i, b):
 
 
 def runs_allowed(masks, colours):
-    """For each colour and cell, where the run of cells that begins there and allows the colour ends."""
+    """For each colour and cell, where the run of cells that begins there and allows the colour
+    ends."""
     ends = {}
     for colour in colours:
         at = [0] * (len(masks) + 1)
@@ -172,7 +175,8 @@ def base_of(rows, givens):
 
 
 def close(clues, facts):
-    """The least closed facts over the given ones, or None where some line has no list that fits under them."""
+    """The least closed facts over the given ones, or None where some line has no list that fits
+    under them."""
     facts = [list(row) for row in facts]
     height, width = len(facts), len(facts[0])
     waiting = names(height, width)

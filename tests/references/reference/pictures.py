@@ -26,7 +26,8 @@ class Document:
         return self.maxval, self.colours, self.rows, self.givens
 
     def ordered(self):
-        """The same picture with its colours numbered by first appearance, and no colour that no cell has."""
+        """The same picture with its colours numbered by first appearance, and no colour that no
+        cell has."""
         kept = [0]
         for row in self.rows:
             for colour in row:
@@ -37,7 +38,8 @@ class Document:
 
 
 def value_of(token):
-    """The value of a token of digits, or a number larger than all limits for a very long one; None for no number."""
+    """The value of a token of digits, or a number larger than all limits for a very long one; None
+    for no number."""
     if not re.fullmatch(rb'[0-9]+', token):
         return None
     digits = token.lstrip(b'0')

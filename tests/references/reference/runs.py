@@ -51,7 +51,8 @@ def clues_run(run, text):
 
 
 def check_run(run, text, cert, background):
-    """The check of a certificate; where it is accepted and the picture is small, a listing says so too."""
+    """The check of a certificate; where it is accepted and the picture is small, a listing says so
+    too."""
     line, status = answer(text, cert, background)
     if status:
         run.must(status, b'', f'nonobench: {line}\n'.encode())
@@ -72,7 +73,8 @@ def check_run(run, text, cert, background):
 
 
 def opened(run, text, is_non, background):
-    """The document that a session opens, or None where the text is refused. A .non without a goal opens any picture."""
+    """The document that a session opens, or None where the text is refused. A .non without a goal
+    opens any picture."""
     try:
         if not is_non:
             return read_ppm(text, background)
@@ -86,7 +88,8 @@ def opened(run, text, is_non, background):
 
 
 def found_picture(run, height, width, clues):
-    """The picture that was found for clues, told by the `write non` with which such a session begins."""
+    """The picture that was found for clues, told by the `write non` with which such a session
+    begins."""
     if run.status == 1:
         run.must(1, b'', b'nonobench: no picture has these clues\n')
         base = [[0xFFFF] * width for _ in range(height)]
@@ -102,7 +105,8 @@ def found_picture(run, height, width, clues):
 
 
 class Puzzle:
-    """A puzzle to be assessed: its text, or None where there is no such file, its format, and what lies beside it."""
+    """A puzzle to be assessed: its text, or None where there is no such file, its format, and what
+    lies beside it."""
 
     def __init__(self, text, background=None, is_non=False, published=None, cert=None):
         self.text, self.background, self.is_non, self.published, self.cert = (
@@ -123,7 +127,8 @@ class Puzzle:
         return Document(255, [(255, 255, 255), (0, 0, 0)], goal)
 
     def must_be_told(self, output, allowance):
-        """The next lines must be its assessment, or the line why it is refused. Answers how it ends."""
+        """The next lines must be its assessment, or the line why it is refused. Answers how it
+        ends."""
         if self.text is None:
             output.must_lines('refused read')
             return 'unread'

@@ -1,4 +1,5 @@
-"""Another picture: by a listing of all pictures, and part by part with the cost that the definitions give."""
+"""Another picture: by a listing of all pictures, and part by part with the cost that the
+definitions give."""
 from .lines import clues_of, close, fillings, line_of, narrow, names
 
 
@@ -7,7 +8,8 @@ class TooMuch(Exception):
 
 
 def is_other(rows, givens, other):
-    """Whether a picture is another one: of the size, with the clues, the givens' colours, and not the picture itself."""
+    """Whether a picture is another one: of the size, with the clues, the givens' colours, and not
+    the picture itself."""
     return (
         len(other) == len(rows)
         and all(len(row) == len(rows[0]) for row in other)
@@ -18,7 +20,8 @@ def is_other(rows, givens, other):
 
 
 def pictures_with(clues, height, width, base, limit=None):
-    """All pictures with these clues that fill the base, row by row; each start of columns is held against its clue."""
+    """All pictures with these clues that fill the base, row by row; each start of columns is held
+    against its clue."""
     found = []
 
     def go_on(rows):
@@ -74,7 +77,8 @@ def through(part):
 
 
 def search_part(clues, facts, rows, part, most):
-    """Another filling of a part or None, and the splits that its search counts. None is found behind `most` splits."""
+    """Another filling of a part or None, and the splits that its search counts. None is found
+    behind `most` splits."""
     cells = set(part)
     alone = [
         [facts[r][c] if (r, c) in cells else 1 << rows[r][c] for c in range(len(rows[0]))]
@@ -139,14 +143,16 @@ UNKNOWN, NO, YES = 'unknown', 'no other filling', 'another filling'
 
 
 class Keeper:
-    """What is known of the other fillings of the parts of a scene. Fillings themselves are not kept: they are free."""
+    """What is known of the other fillings of the parts of a scene. Fillings themselves are not
+    kept: they are free."""
 
     def __init__(self, scene):
         self.scene = scene
         self.known = [UNKNOWN for _ in scene.parts]
 
     def carried(self, scene):
-        """What is known in another scene: of a part whose lines are all the same, what was known of it."""
+        """What is known in another scene: of a part whose lines are all the same, what was known of
+        it."""
         keeper = Keeper(scene)
         for i, part in enumerate(scene.parts):
             if all(scene.same_line(self.scene, line) for line in through(part)):

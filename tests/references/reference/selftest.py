@@ -1,4 +1,5 @@
-"""The reference on rows worked by hand, and its two readings of a line against each other. Run before a fuzzing."""
+"""The reference on rows worked by hand, and its two readings of a line against each other. Run
+before a fuzzing."""
 import random
 import re
 from pathlib import Path
@@ -153,31 +154,50 @@ SESSIONS = (
     (
         'aa/a.',
         'verdict|paint 1 1 .|map|verdict|undo|report',
-        'unique|ok|??|??|ambiguous|a.|.a|ok|size 2 2|colours 2 maxval 255|. 255 255 255|a 0 0 0|picture|aa|a.|clues|r 1: 2a'
-        '|r 2: 1a|c 1: 2a|c 2: 1a|map|aa|a.|open 0|verdict unique|history 0 1',
+        (
+            'unique|ok|??|??|ambiguous|a.|.a|ok|size 2 2|colours 2 maxval 255|. 255 255 255|a 0 0'
+            ' 0|picture|aa|a.|clues|r 1: 2a|r 2: 1a|c 1: 2a|c 2: 1a|map|aa|a.|open 0|verdict'
+            ' unique|history 0 1'
+        ),
     ),
     (
         'a./.b',
-        'colour set . 1 1 1|colour set a 255 0 0|colour set a 256 0 0|colour set a 0 0 0|colour set d 1 1 1'
-        '|colour add 0 0 255|paint 1 2 c|undo|undo|paint 1 2 c|redo',
-        'refused: Background|refused: DuplicateColour|refused: SampleOver|refused: NoChange|refused: Colour|ok|ok|ok|ok'
-        '|refused: Colour|ok',
+        (
+            'colour set . 1 1 1|colour set a 255 0 0|colour set a 256 0 0|colour set a 0 0 0|colour'
+            ' set d 1 1 1|colour add 0 0 255|paint 1 2 c|undo|undo|paint 1 2 c|redo'
+        ),
+        (
+            'refused: Background|refused: DuplicateColour|refused: SampleOver|refused:'
+            ' NoChange|refused: Colour|ok|ok|ok|ok|refused: Colour|ok'
+        ),
     ),
     (
         'a./.a',
-        'pin 1 1|map|verdict|why 1 1 .|why 1 1 a|why 1 2 a|pin 1 1|pin 3 1|unpin 2 2|unpin 1 1|allow 0|verdict'
-        '|allow 1|verdict|allow 0|verdict|certify|allow 00007|allow x',
-        'ok|a.|.a|unique|given|possible|by r 1 given 1=a|refused: NoChange|refused: Place|refused: NoChange|ok|ok'
-        '|undecided 0|ok|ambiguous|.a|a.|ok|ambiguous|.a|a.|ambiguous|ok|refused: BadNumber',
+        (
+            'pin 1 1|map|verdict|why 1 1 .|why 1 1 a|why 1 2 a|pin 1 1|pin 3 1|unpin 2 2|unpin 1'
+            ' 1|allow 0|verdict|allow 1|verdict|allow 0|verdict|certify|allow 00007|allow x'
+        ),
+        (
+            'ok|a.|.a|unique|given|possible|by r 1 given 1=a|refused: NoChange|refused:'
+            ' Place|refused: NoChange|ok|ok|undecided'
+            ' 0|ok|ambiguous|.a|a.|ok|ambiguous|.a|a.|ambiguous|ok|refused: BadNumber'
+        ),
     ),
     (
         '.a./aa./...',
-        'path|assess  name|assess named now|assess name now|path now|paint 2 1 .|paint 1 1 a|delete row 3|delete column 3'
-        '|paint 1 2 .|path|allow 0|assess|pin 1 1|path|assess|allow off|assess named',
-        'r 2 1 1 2=a|r 3 1 3 1=. 2=. 3=.|c 2 1 1 1=a|c 3 1 2 1=. 2=.|r 1 2 1 1=.|r 2 2 1 1=a|open 0|refused: UnknownWord'
-        '|refused: WordCount|refused: UnknownWord|refused: WordCount|ok|ok|ok|ok|ok|open 4|ok|undecided|size 2 2|colours 2|givens 0|open 4'
-        '|unfit|ok|r 1 1 1 2=.|c 1 1 1 2=.|c 2 1 1 2=a|open 0|unique|size 2 2|colours 2|givens 1|open 0|grade easy 1 4 2 0 0'
-        '|unknown given 1 1|fit|ok|unique|size 2 2|colours 2|givens 1|open 0|grade easy 1 4 2 0 0|fit',
+        (
+            'path|assess  name|assess named now|assess name now|path now|paint 2 1 .|paint 1 1'
+            ' a|delete row 3|delete column 3|paint 1 2 .|path|allow 0|assess|pin 1'
+            ' 1|path|assess|allow off|assess named'
+        ),
+        (
+            'r 2 1 1 2=a|r 3 1 3 1=. 2=. 3=.|c 2 1 1 1=a|c 3 1 2 1=. 2=.|r 1 2 1 1=.|r 2 2 1'
+            ' 1=a|open 0|refused: UnknownWord|refused: WordCount|refused: UnknownWord|refused:'
+            ' WordCount|ok|ok|ok|ok|ok|open 4|ok|undecided|size 2 2|colours 2|givens 0|open'
+            ' 4|unfit|ok|r 1 1 1 2=.|c 1 1 1 2=.|c 2 1 1 2=a|open 0|unique|size 2 2|colours'
+            ' 2|givens 1|open 0|grade easy 1 4 2 0 0|unknown given 1 1|fit|ok|unique|size 2'
+            ' 2|colours 2|givens 1|open 0|grade easy 1 4 2 0 0|fit'
+        ),
     ),
     (
         'a../..a',
@@ -230,7 +250,8 @@ def test_answers():
     )
 
 
-# Pictures, capitals and commas for givens, and what their assessment says, the background named in some.
+# Pictures, capitals and commas for givens, and what their assessment says, the background named in
+# some.
 ASSESSED = (
     ('aaa/a.a/aaa', False, 'unique|size 3 3|colours 2|givens 0|open 0|grade easy 1 3 1 0 0|fit'),
     ('a./.a', False, 'ambiguous|.a|a.|size 2 2|colours 2|givens 0|open 4|unfit'),
@@ -278,8 +299,11 @@ CERTIFIED = (
     ),
     (
         '.aa./a..a/a..a',
-        'nonocert 1|line r 1|line r 2|line r 3|line c 1|line c 4|line r 2|split 1 1|line r 1|line c 1|line c 3'
-        '|line r 3|line c 2|line c 4|done|line r 1|line c 1|line c 2|line c 3|line c 4|dead r 3|',
+        (
+            'nonocert 1|line r 1|line r 2|line r 3|line c 1|line c 4|line r 2|split 1 1|line r'
+            ' 1|line c 1|line c 3|line r 3|line c 2|line c 4|done|line r 1|line c 1|line c 2|line c'
+            ' 3|line c 4|dead r 3|'
+        ),
         'unique|size 3 4|colours 2|givens 0|open 8|grade very-hard 2 10 4 1 1|fit',
     ),
 )
@@ -298,7 +322,8 @@ SIMILAR = (
 )
 CASE = re.compile(
     r'(\S+)(?: given ([\d, ]+?))?(?: map \S+)?(?: cert (.*))? => ([a-z -]+): '
-    r'rounds (\d+), evaluations (\d+), longest wait (\d+)(?:, open (\d+), splits (\d+), depth (\d+))?'
+    r'rounds (\d+), evaluations (\d+), longest wait (\d+)(?:, open (\d+), splits (\d+), depth'
+    r' (\d+))?'
 )
 
 
@@ -315,7 +340,8 @@ def document_of(text):
 
 
 def test_assessments():
-    """Assessments with and without certificates, similar colours, and a certificate that names a cell which is not given."""
+    """Assessments with and without certificates, similar colours, and a certificate that names a
+    cell which is not given."""
     for text, named, wanted in ASSESSED:
         document = document_of(text)
         got = Assessment(document, named, by_listing(document.rows)).lines(('.a', 'a.'))
@@ -342,7 +368,8 @@ def test_assessments():
 
 
 def test_grades(chance):
-    """The grades of tests/cases/grade.case, and the last facts of random pictures, which are their map."""
+    """The grades of tests/cases/grade.case, and the last facts of random pictures, which are their
+    map."""
     count = 0
     for line in GRADES.read_text(encoding='utf-8').splitlines():
         case = CASE.fullmatch(line)

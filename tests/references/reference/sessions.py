@@ -65,8 +65,9 @@ def clue_lines(clues):
 
 
 def must_assess(output, assessment, must_be_other):
-    """The next lines must be an assessment. Which other picture it shows is free, and which certificate its grade is taken from: so
-    splits and depth may be any that one can have, and none need be found. Answers whether none was.
+    """The next lines must be an assessment. Which other picture it shows is free, and which
+    certificate its grade is taken from: so splits and depth may be any that one can have, and none
+    need be found. Answers whether none was.
     """
     found = read_assessment(output.text, output.at)
     agree(found, f'no assessment: {output.text[output.at:output.at + 300]!r}')
@@ -215,7 +216,8 @@ class Session:
             self.is_reason(reason, row, col, colour)
 
     def is_reason(self, reason, row, col, colour):
-        """A line, and premises of it that are known, force the exclusion, and none can be left out."""
+        """A line, and premises of it that are known, force the exclusion, and none can be left
+        out."""
         scene = self.scene()
         line = (reason.group(1).decode(), int(reason.group(2)) - 1)
         crossing = col if line[0] == 'r' else row
@@ -248,7 +250,8 @@ class Session:
                 )
 
     def say_certify(self, output):
-        """A certificate, checked by the reference, or that there is another picture. What it finds of the parts is kept."""
+        """A certificate, checked by the reference, or that there is another picture. What it finds
+        of the parts is kept."""
         if self.kept().judge(None, self.most) == 'ambiguous':
             output.must_lines('ambiguous')
             return
