@@ -1,7 +1,9 @@
-"""What all tests share: which programs they try, what waits or is left out, and what is said of that in the end.
+"""What all tests share: which programs they try, what waits or is left out, and what is said of
+that in the end.
 
-Where `rt ci` left a program, that is tried; with --released, or where there is none, the release in dist/ is. Then tests that are
-marked `since` a later version wait, if the engine has changed since that release.
+Where `rt ci` left a program, that is tried; with --released, or where there is none, the release in
+dist/ is. Then tests that are marked `since` a later version wait, if the engine has changed since
+that release.
 """
 
 import collections
@@ -9,6 +11,7 @@ import compileall
 import importlib.util
 import os
 import shutil
+import signal
 import sys
 import tempfile
 from pathlib import Path
@@ -28,11 +31,10 @@ WHY_LONG = 'it takes long, and make check-all has it ({})'
 WANTED = {
     'test_audit': {'PIL': 'Pillow', 'defusedxml': 'defusedxml', 'jinja2': 'Jinja2'},
     'test_images': {'PIL': 'Pillow'},
-    'test_audit_cluster': {'distributed': 'distributed'},
-    'test_app': {'flask': 'Flask'},
-    'test_serving': {'flask': 'Flask', 'waitress': 'waitress'},
+    'test_service': {'flask': 'Flask', 'PIL': 'Pillow', 'defusedxml': 'defusedxml'},
 }
 KEPT = pytest.StashKey()
+LEFT_OUT = pytest.StashKey()
 
 
 def pytest_addoption(parser):
@@ -56,9 +58,15 @@ def pytest_addoption(parser):
 
 
 def pytest_configure(config):
-    """Chooses what is tried. The first process unpacks the release, and the others find it by the variable SCRATCH."""
+    """Chooses what is tried. The first process unpacks the release, and the others find it by the
+    variable SCRATCH."""
+    heed_signals()
     left = tried.Left()
     is_first = 'PYTEST_XDIST_WORKER' not in os.environ
+    if is_first:
+        has_processes = config.getoption('dist', 'no') != 'no'
+        kind = FilesOfProcesses if has_processes else Files
+        config.pluginmanager.register(kind(config), 'files of tests')
     if is_first:  # so that not each of some hundred runs of the audit reads Python's sources anew
         compileall.compile_dir(tried.ROOT / 'python' / 'src', quiet=2)
     if not config.getoption('released') and left.program('nonobench').exists():
@@ -78,11 +86,20 @@ def pytest_configure(config):
     os.environ.setdefault(
         'SLACK', '12'
     )  # a factor for the bounds of time, since many tests run at once
-    os.environ['SHORT'] = (
-        '' if 'all' in config.getoption('with') else WHY_LONG.format('all')
-    )  # where there is no mark, and for sizes
+    # where there is no mark, and for sizes
+    os.environ['SHORT'] = '' if 'all' in config.getoption('with') else WHY_LONG.format('all')
     if kept.released and tried.changed_crates() != []:
         os.environ['TRIED'] = kept.version  # tests/waits.mjs
+
+
+def heed_signals():
+    """Whoever starts this may ignore signals, as `nohup` and a shell's `&` do. What tests start
+    begins as by hand: a signal that has a handler here is the system's again for a new program."""
+    for name in (signal.SIGHUP, signal.SIGQUIT):
+        if signal.getsignal(name) is signal.SIG_IGN:
+            signal.signal(name, lambda *_: None)
+    if signal.getsignal(signal.SIGINT) is signal.SIG_IGN:
+        signal.signal(signal.SIGINT, signal.default_int_handler)
 
 
 def pytest_unconfigure(config):
@@ -95,8 +112,9 @@ def pytest_report_header(config):
 
 
 def unread(file, kept):
-    """Why a file of tests cannot be read here, or None: the library was not built, or Python lacks one."""
-    if not file.name.startswith('test_') or not {'python', 'site'} & set(file.parts):
+    """Why a file of tests cannot be read here, or None: the library was not built, or Python lacks
+    one."""
+    if not file.name.startswith('test_') or 'python' not in file.parts:
         return None
     wanted = {
         module: name
@@ -115,46 +133,129 @@ def pytest_ignore_collect(collection_path, config):
 
 
 def pytest_collection_modifyitems(config, items):
+    """Leaves out what is not asked for or cannot be tried here, and counts it by its reason."""
     kept = config.stash[KEPT]
     changed = tried.changed_crates() if kept.released else []
+    chosen, left_out = [], collections.Counter()
     for item in items:
-        for mark in item.iter_markers('since'):
-            _wait(item, mark.args[0], kept, changed)
-        for name in set(LONG) - set(config.getoption('with')):
-            if item.get_closest_marker(name):
-                item.add_marker(pytest.mark.skip(reason=WHY_LONG.format(name)))
+        why = why_not(item, config, changed)
+        if why:
+            left_out[why] += 1
+        else:
+            chosen.append(item)
         if not kept.released and 'made' in item.fixturenames and 'program' not in item.fixturenames:
-            item.add_marker(
-                pytest.mark.xdist_group('packages')
-            )  # one process makes them and tries them, and the others go on
-        if kept.released and item.get_closest_marker('toolchain'):
-            item.add_marker(pytest.mark.skip(reason='it wants the toolchain, or what rt ci leaves'))
+            # One process makes the packages and tries them, and the others go on.
+            item.add_marker(pytest.mark.xdist_group('packages'))
+    items[:] = chosen
+    config.stash[LEFT_OUT] = left_out
 
 
-def _wait(item, version, kept, changed):
-    """Lets a test of new words wait for the release that has them."""
-    if tried.as_numbers(version) > tried.as_numbers(tried.version_of_tree()):
-        raise pytest.UsageError(
-            f'{item.nodeid}: since {version}, which is later than the version of the tree'
-        )
-    if (
-        kept.released
-        and changed != []
-        and tried.as_numbers(version) > tried.as_numbers(kept.version)
-    ):
-        item.add_marker(
-            pytest.mark.skip(reason=f'it waits for the release {version}, which has its words')
-        )
+def why_not(item, config, changed):
+    """Why a test is left out, or None."""
+    kept = config.stash[KEPT]
+    for name in LONG:
+        if name not in config.getoption('with') and item.get_closest_marker(name):
+            return WHY_LONG.format(name)
+    if kept.released and item.get_closest_marker('toolchain'):
+        return 'it wants the toolchain, or what rt ci leaves'
+    for mark in item.iter_markers('since'):
+        version = mark.args[0]
+        if tried.as_numbers(version) > tried.as_numbers(tried.version_of_tree()):
+            raise pytest.UsageError(
+                f'{item.nodeid}: since {version}, which is later than the version of the tree'
+            )
+        if kept.released and changed != [] and is_later(version, kept.version):
+            return f'it waits for the release {version}, which has its words'
+    return None
+
+
+def is_later(version, other):
+    return tried.as_numbers(version) > tried.as_numbers(other)
+
+
+# ---- what is said of a run
+
+
+class Files:
+    """Says of each file of tests how it went, once all of it has run, and of a failure at once."""
+
+    def __init__(self, config):
+        self.plugins = config.pluginmanager
+        self.waiting, self.counts = collections.Counter(), {}
+
+    def say(self, line, **looks):
+        self.plugins.get_plugin('terminalreporter').write_line(line, **looks)
+
+    def expect(self, ids):
+        """The tests that are to be run; each process of a run names them all."""
+        if not self.waiting:
+            self.waiting = collections.Counter(name.split('::')[0] for name in ids)
+
+    def pytest_collection_finish(self, session):
+        self.expect(item.nodeid for item in session.items)
+
+    def pytest_runtest_logreport(self, report):
+        file = report.nodeid.split('::')[0]
+        counts = self.counts.setdefault(file, collections.Counter())
+        if report.failed:
+            self.say(f'FAILED {report.nodeid}', red=True)
+        if report.failed or report.skipped or report.when == 'call':
+            counts[report.outcome] += 1
+        if report.when == 'teardown':
+            self.waiting[file] -= 1
+            if not self.waiting[file]:
+                told = ', '.join(f'{count} {outcome}' for outcome, count in sorted(counts.items()))
+                self.say(f'{file}: {told}')
+
+
+class FilesOfProcesses(Files):
+    """The same where several processes run tests, which xdist starts."""
+
+    def pytest_xdist_node_collection_finished(self, node, ids):
+        self.expect(ids)
+
+    def pytest_testnodedown(self, node, error):
+        left_out = getattr(node, 'workeroutput', {}).get('left out')
+        if left_out is not None:
+            node.config.stash[LEFT_OUT] = collections.Counter(left_out)
+
+
+def pytest_report_teststatus(report, config):
+    """No letters: files and failures are named."""
+    if report.when == 'call' or report.failed or report.skipped:
+        return report.outcome, '', ''
+    return '', '', ''
+
+
+def pytest_sessionfinish(session):
+    if hasattr(session.config, 'workeroutput'):
+        session.config.workeroutput['left out'] = dict(session.config.stash[LEFT_OUT])
 
 
 def pytest_terminal_summary(terminalreporter, config):
-    """Says what was left out, and writes the counts."""
+    """Says what was left out, in one line, and writes the counts."""
     if 'PYTEST_XDIST_WORKER' in os.environ:
         return
-    stats = terminalreporter.stats
-    passed = len(stats.get('passed', ()))
-    failed = len(stats.get('failed', ())) + len(stats.get('error', ()))
-    reasons = collections.Counter(
+    kept = config.stash[KEPT]
+    reasons = reasons_of(terminalreporter.stats, config)
+    parts = [f'{reason}: {count}' for reason, count in sorted(reasons.items())]
+    terminalreporter.write_line(
+        f'left out: {"; ".join(parts)}' if parts else 'nothing was left out in this run'
+    )
+    if kept.released:
+        terminalreporter.write_line(f'tried: {kept.name}; {what_changed()}')
+    if config.getoption('counts'):
+        stats = terminalreporter.stats
+        passed = len(stats.get('passed', ()))
+        failed = len(stats.get('failed', ())) + len(stats.get('error', ()))
+        lines = [f'{passed} {failed}', *parts]
+        Path(config.getoption('counts')).write_text(''.join(f'{line}\n' for line in lines))
+
+
+def reasons_of(stats, config):
+    """Why tests were left out, with their number: before the run, in it, and parts of a test."""
+    reasons = collections.Counter(config.stash.get(LEFT_OUT, {}))
+    reasons.update(
         report.longrepr[2].removeprefix('Skipped: ') for report in stats.get('skipped', ())
     )
     reasons.update(
@@ -163,29 +264,19 @@ def pytest_terminal_summary(terminalreporter, config):
         for name, why in report.user_properties
         if name == 'left out'
     )
-    files = [*tried.ROOT.glob('python/tests/*.py'), *tried.ROOT.glob('examples/site/*.py')]
+    files = tried.ROOT.glob('python/tests/*.py')
     reasons.update(why for why in (unread(file, config.stash[KEPT]) for file in files) if why)
-    lines = [
-        f'{reason}: {count} {"test" if count == 1 else "tests"}'
-        for reason, count in sorted(reasons.items())
-    ]
-    terminalreporter.write_line(
-        'left out in this run:' if lines else 'nothing was left out in this run'
-    )
-    for line in lines:
-        terminalreporter.write_line(f'    {line}')
-    if config.stash[KEPT].released:
-        changed = tried.changed_crates()
-        told = (
-            'nobody knows whether the engine has changed since'
-            if changed is None
-            else f'the engine has changed since in {len(changed)} crates'
-        )
-        terminalreporter.write_line(f'tried: {config.stash[KEPT].name}; {told}')
-    if config.getoption('counts'):
-        Path(config.getoption('counts')).write_text(
-            ''.join(f'{line}\n' for line in [f'{passed} {failed}', *lines])
-        )
+    return reasons
+
+
+def what_changed():
+    changed = tried.changed_crates()
+    if changed is None:
+        return 'nobody knows whether the engine has changed since'
+    return f'the engine has changed since in {len(changed)} crates'
+
+
+# ---- what tests are given
 
 
 def pytest_generate_tests(metafunc):
@@ -250,7 +341,8 @@ def library(kept):
 
 @pytest.fixture(scope='session')
 def page(kept, shared):
-    """The page as one file: built, or joined of the scripts of this tree around the module of the release."""
+    """The page as one file: built, or joined of the scripts of this tree around the module of the
+    release."""
     if not kept.released:
         return tried.needs_file(kept.page, 'web/build')
     tried.needs('node', 'esbuild')
@@ -298,16 +390,16 @@ def others(shared, compiled):
 
 @pytest.fixture(scope='session')
 def made(kept, shared, request):
-    """The folder of the packages: made of what rt ci left, or dist/."""
+    """The folder of the packages: a candidate, made of what rt ci left, or dist/."""
     if kept.released:
         return tried.ROOT / 'dist'
+    candidate = tried.ROOT / 'out' / 'dist'
     parts = {
         'OBJECT': str(request.getfixturevalue('compiled') / 'nonobench.o'),
         'OTHERS': str(request.getfixturevalue('others')),
     }
-    return tried.once(
-        shared / 'made', lambda folder: made_by(tried.ROOT / 'release', folder, **parts)
-    )
+    tried.once(shared / 'made', lambda _: made_by(tried.ROOT / 'release', candidate, **parts))
+    return candidate
 
 
 def lay_scripts(package):
@@ -324,7 +416,8 @@ def lay_scripts(package):
 
 @pytest.fixture(scope='session')
 def npm(made, kept, shared):
-    """A folder in which the package for npm is installed; that of a release has the scripts of this tree."""
+    """A folder in which the package for npm is installed; that of a release has the scripts of this
+    tree."""
     tried.needs('node')
     package = next(made.glob('nonobench-*.tgz'))
 
@@ -356,14 +449,10 @@ def javascript(npm):
 
 @pytest.fixture(scope='session')
 def installed(made, shared):
-    """Where the archive for Linux is installed, by its own command."""
-
-    def install(folder):
-        package = next(made.glob('nonobench-*-linux-x86_64.tar.gz'))
-        why = made_by('tar', 'xzf', package, '-C', folder)
-        [unpacked] = folder.iterdir()
-        run = tried.clean([unpacked / 'install', '--prefix', shared / 'installed'])
-        return why or (run.said.decode() if run.status else '')
-
-    tried.once(shared / 'archive', install)
-    return shared / 'installed'
+    """Where the archive for Linux is unpacked: it runs there."""
+    package = next(made.glob('nonobench-*-linux-x86_64.tar.gz'))
+    tried.once(
+        shared / 'archive',
+        lambda folder: made_by('tar', 'xzf', package, '-C', folder, '--strip-components', '1'),
+    )
+    return shared / 'archive'

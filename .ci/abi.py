@@ -1,19 +1,24 @@
 #!/usr/bin/env python3
-"""Compares what calls the proved crates web and check_host with the functions that they export, and says where they differ.
+"""Compares what calls the proved crates web and check_host with the functions that they export, and
+says where they differ.
 
-The exported functions are those of each crate's src/calls.rt. Compared with them, by name, number, width and sign of
-arguments and result: the prototypes of c/nonobench.h and of web/guard.c, the table of python/src/nonobench/_library.py, and
-LLVM's module of the crate web where one is named, as text; and those of c/nonocheck.h and of web/check_guard.c. Of the calls in
-web/nonobench.mjs the number of arguments is compared with what web/guard.c exports.
+The exported functions are those of each crate's src/calls.rt. Compared with them, by name, number,
+width and sign of arguments and result: the prototypes of c/nonobench.h and of web/guard.c, the
+table of python/src/nonobench/_library.py, and LLVM's module of the crate web where one is named, as
+text; and those of c/nonocheck.h and of web/check_guard.c. Of the calls in web/nonobench.mjs the
+number of arguments is compared with what web/guard.c exports.
 
-The statuses are those of crates/web/src/status.rt, and what is refused has the one of crates/program_options/src/fault.rt.
-They are repeated in c/nonobench.h, web/within.h, web/nonobench.mjs and python/src/nonobench/_library.py, and, as far as there are such,
-in crates/check_host/src/status.rt, c/nonocheck.h and web/check.mjs.
+The statuses are those of crates/web/src/status.rt, and what is refused has the one of
+crates/program_options/src/fault.rt. They are repeated in c/nonobench.h, web/within.h,
+web/nonobench.mjs and python/src/nonobench/_library.py, and, as far as there are such, in
+crates/check_host/src/status.rt, c/nonocheck.h and web/check.mjs.
 
 Then it plants differences, and fails if one is not found.
 
-Usage: .ci/abi.py [MODULE.ll]. The last line says how much was compared. The status is 1 if something differs.
+Usage: .ci/abi.py [MODULE.ll]. The last line says how much was compared. The status is 1 if
+something differs.
 """
+import ast
 import pathlib
 import re
 import sys
@@ -35,7 +40,8 @@ CHECK_HEADER, CHECK_GUARD, CHECK_SCRIPT, WITHIN = (
 )
 # What stands after it in the header is C, and not the crate's.
 OWN_C = "/* ---- one question each"
-# A pointer to bytes and a length are two arguments, what takes no bytes is none. `pointer TO` names what lies there.
+# A pointer to bytes and a length are two arguments, what takes no bytes is none. `pointer TO` names
+# what lies there.
 RUST = {
     "Global": [],
     "": ["nothing"],
@@ -97,7 +103,8 @@ def without_comments(text):
 
 
 def exported(text):
-    """The functions that the crate exports: each with its result and its arguments as C sees them."""
+    """The functions that the crate exports: each with its result and its arguments as C sees
+    them."""
     found = {}
     pattern = (
         r'#\[unsafe\(no_mangle\)\]\s+pub extern "C" fn (\w+)\((.*?)\)(?:\s*->\s*(\w+))?\s*[{re]'
@@ -129,17 +136,20 @@ def prototypes(text):
 
 def tabled(text):
     """The functions of Python's table, in the same form."""
+    [table] = [node for node in ast.walk(ast.parse(text)) if is_table(node)]
     found = {}
-    for name, result, inside in re.findall(
-        r'^ +"(\w+)": \(([\w.]+), \[(.*?)\]\),$', text, flags=re.M
-    ):
-        kinds = [
-            c
-            for ctype in [result, *inside.split(", ")]
-            for c in CTYPES.get(ctype, [f"unknown: {ctype}"])
+    for name, value in zip(table.keys, table.values):
+        result, arguments = value.elts
+        types = [ast.unparse(one) for one in [result, *arguments.elts]]
+        found["nonobench_" + name.value] = [
+            c for kind in types for c in CTYPES.get(kind, [f"unknown: {kind}"])
         ]
-        found["nonobench_" + name] = kinds
     return found
+
+
+def is_table(node):
+    """Whether it is a table of calls by name: of each its result and a list of its arguments."""
+    return isinstance(node, ast.Dict) and all(isinstance(one, ast.Tuple) for one in node.values)
 
 
 def llvm_type(kind):
@@ -212,7 +222,10 @@ def differing(name, wanted, got):
     """A line for each function that is missing, is too many or differs."""
     for key in sorted(wanted.keys() | got.keys()):
         if wanted.get(key) != got.get(key):
-            yield f"{name}: {key} is {got.get(key, 'missing')}, in the crate {wanted.get(key, 'missing')}"
+            yield (
+                f"{name}: {key} is {got.get(key, 'missing')}, in the crate"
+                f" {wanted.get(key, 'missing')}"
+            )
 
 
 def known(functions, only):
@@ -280,7 +293,7 @@ PLANTED = [
         '"check_published": (number, [cell, *bytes_of, ',
         '"check_published": (number, [cell, ',
     ),
-    (GUARD, "u64 givens, u64 givens_size, ", "u64 givens, "),
+    (GUARD, "    u64 givens_size,\n", ""),
     (
         SCRIPT,
         "nonobench_say(cell, handle, text.at, text.size)",
@@ -291,13 +304,9 @@ PLANTED = [
     (STATUS, "OPTIONS: u32 = 6", "OPTIONS: u32 = 7"),
     (WITHIN, "OPTIONS = 6", "OPTIONS = 5"),
     (CHECK_CALLS, "givens: &[u8],", ""),
-    (
-        CHECK_HEADER,
-        "const uint16_t *background, size_t samples, uint8_t *out, size_t room);",
-        "const uint16_t *background, uint8_t *out, size_t room);",
-    ),
+    (CHECK_HEADER, "    size_t samples,\n", ""),
     (CHECK_GUARD, "const byte *, u64, const sample *", "const byte *, u64, const byte *"),
-    (CHECK_GUARD, "u64 givens, u64 givens_size, ", "u64 givens, "),
+    (CHECK_GUARD, "    u64 givens_size,\n", ""),
     (CHECK_STATUS, "MEMORY: u32 = 4", "MEMORY: u32 = 5"),
     (CALLS, "handle: u32, lines: &[u8]) -> u32", "handle: u32, lines: &[u8], more: u32) -> u32"),
 ]
@@ -326,8 +335,11 @@ def main():
     beside = "the module too" if module is not None else "no module was named"
     print(
         *found,
-        f"abi: {len(exported(files[CALLS]) | exported(files[CHECK_CALLS]))} functions, {beside}; {len(told)} statuses in {len(again)} files; "
-        f"{len(PLANTED) + (module is not None)} planted; {len(found)} differences",
+        (
+            f"abi: {len(exported(files[CALLS]) | exported(files[CHECK_CALLS]))} functions,"
+            f" {beside}; {len(told)} statuses in {len(again)} files;"
+            f" {len(PLANTED) + (module is not None)} planted; {len(found)} differences"
+        ),
         sep="\n",
     )
     return 1 if found else 0

@@ -1,13 +1,17 @@
 #!/usr/bin/env python3
-"""Follows the clauses of README's claims to every definition that they depend on, and keeps docs/BASE.md.
+"""Follows the clauses of the claims of docs/THEOREMS.md to every definition that they depend on.
 
-For each claim it takes the clauses and laws by name. From the names in them, through the imports of each file, it collects all
-definitions in specs/ that they need, in reading order. Then it adds those by which a clause sees its values: the views of their
-types (.ci/views.py). docs/BASE.md lists these with file, line and the comment's first sentence. It
-must be what this script makes, and quotes the definitions of QUOTED. CLAIMS says how many lines a claim may need, and whether a name
-may mean two things in its base. README.md must name the lines of FIGURES.
+For each claim it takes the clauses and laws by name. From the names in them, through the imports of
+each file, it collects all definitions in specs/ that they need, in reading order. Then it adds
+those by which a clause sees its values: the views of their types (.ci/views.py). They are listed
+with file, line and the comment's first sentence.
 
-Usage: .ci/base.py [--write | --counts]: --write writes docs/BASE.md, and --counts prints only the counts.
+docs/BASE.md has the claims of QUOTED, and quotes their definitions. It must be what this script
+makes. CLAIMS says whether a name may mean two things in a claim's base. docs/THEOREMS.md must name
+the lines of FIGURES.
+
+Usage: .ci/base.py [--write | --all | --counts]: --write writes docs/BASE.md, --all prints the page
+of all claims, and --counts only their counts.
 """
 import collections
 import re
@@ -24,50 +28,39 @@ PAGE = ROOT / 'docs' / 'BASE.md'
 
 
 class Claim(NamedTuple):
-    """A claim of README: the clauses that carry it, each as a file, a function and a clause ('' is the one without a name).
-
-    It may need so many lines at most, by its clauses and with the views: a larger number needs its reason in docs/DECISIONS.md. In the
-    base of some claims a name may mean two things: they span formats, each with words and lines of its own.
+    """A claim of docs/THEOREMS.md: the clauses that carry it, each as a file, a function and a
+    clause ('' is the one without a name). In the base of some claims a name may mean two things:
+    they span formats, each with words and lines of its own.
     """
 
     clauses: list
-    most: tuple
     is_shared: bool = True
 
 
 CLAIMS = {
-    'The verdict is true': Claim(
-        [('live_audit/src/bench.rt', 'verdict', 'headline')], (60, 210), False
-    ),
+    'The verdict is true': Claim([('live_audit/src/bench.rt', 'verdict', 'headline')], False),
     'A certificate proves uniqueness': Claim(
-        [('answers/src/check.rt', 'run_check_published', 'unique')], (238, 238), False
+        [('answers/src/check.rt', 'run_check_published', 'unique')], False
     ),
-    'So it does in its own givens': Claim(
-        [('answers/src/check.rt', 'run_check', 'unique')], (371, 371)
-    ),
+    'So it does in its own givens': Claim([('answers/src/check.rt', 'run_check', 'unique')]),
     'A check answers exactly': Claim(
         [
             ('cert_check/src/checking.rt', 'check_cert', name)
             for name in ('first', 'proof', 'only', 'unique')
-        ],
-        (316, 321),
+        ]
     ),
     'The checker alone does so, too': Claim(
         [
             ('check_host/src/calls.rt', call, 'checks')
             for call in ('nonocheck_check', 'nonocheck_check_published')
-        ],
-        (732, 732),
+        ]
     ),
     'A refused edit changes nothing': Claim(
         [('live_audit/src/bench.rt', call, 'refused') for call in ('apply', 'undo', 'redo')],
-        (143, 231),
         False,
     ),
-    'It stays true': Claim([('live_audit/src/laws.rt', 'lists_stay_audited', '')], (1203, 1203)),
-    "A session's answers are right": Claim(
-        [('session/src/session.rt', 'run_session', 'truth')], (1686, 1772)
-    ),
+    'It stays true': Claim([('live_audit/src/laws.rt', 'lists_stay_audited', '')]),
+    "A session's answers are right": Claim([('session/src/session.rt', 'run_session', 'truth')]),
     'Published pairs are accepted': Claim(
         [
             *(
@@ -78,35 +71,40 @@ CLAIMS = {
                 ('published/src/laws.rt', law, '')
                 for law in ('unique_pictures_are_published', 'plain_lines_are_one_solution')
             ),
-        ],
-        (2245, 2320),
+        ]
     ),
-    'What prove prints is accepted': Claim(
-        [('published/src/laws.rt', 'proofs_are_verified', '')], (744, 744)
-    ),
-    'A complete search decides': Claim(
-        [('published/src/laws.rt', 'complete_searches_decide', '')], (735, 735)
-    ),
+    'What prove prints is accepted': Claim([('published/src/laws.rt', 'proofs_are_verified', '')]),
+    'A complete search decides': Claim([('published/src/laws.rt', 'complete_searches_decide', '')]),
     'A puzzle that is fit has one solution': Claim(
-        [('published/src/laws.rt', 'fit_puzzles_are_fit', '')], (1787, 1787)
+        [('published/src/laws.rt', 'fit_puzzles_are_fit', '')]
     ),
-    'The program does what its arguments ask for': Claim(
-        [('program/src/running.rt', 'run', '')], (3480, 3480)
-    ),
+    'The program does what its arguments ask for': Claim([('program/src/running.rt', 'run', '')]),
 }
 # From this many words on, a comment's first sentence is shortened in docs/BASE.md.
 LONG = 35
-# What README.md says of the lines that a claim needs.
+# What docs/THEOREMS.md says of the lines that a claim needs.
 FIGURES = {
     'The verdict is true': '{} lines for the verdict ({} with the state that it reads)',
     'A certificate proves uniqueness': '{} for a certificate with published givens',
     'The program does what its arguments ask for': 'up to {:,} for the program',
 }
-# The claims whose definitions docs/BASE.md quotes, and does not only list.
+# The claims of docs/BASE.md, whose definitions it quotes.
 QUOTED = 'The verdict is true', 'A certificate proves uniqueness'
 HEAD = '''# What the claims depend on
 
-This page is for those who want to read all that a claim of [README](../README.md#what-is-proved) means. For each clause that is named below, it lists the definitions on which the clause depends, in reading order. A clause names values of the code, such as `self.old.history.document`. What it sees of them are their types' *views*: definitions that make, say, a document and its history out of what a bench keeps. These are counted and listed after the others, where a clause names such values. (Most laws name none: they are about all values of their definitions.) Proofs, code and the definitions of the toolchain are left out. A definition that is listed earlier is counted again, but not listed again. The definitions of the first two sections are quoted, abbreviations without their types. `.ci/base.py --write` makes this page.
+This page is for those who want to read all that a claim of THEOREMS means. For each clause that is
+named below, it lists the definitions on which the clause depends, in reading order. A clause names
+values of the code, such as `self.old.history.document`. What it sees of them are their types'
+*views*: definitions that make, say, a document and its history out of what a bench keeps. These are
+counted and listed after the others, where a clause names such values. (Most laws name none: they
+are about all values of their definitions.) Proofs, code and the definitions of the toolchain are
+left out. A definition that is listed earlier is counted again, but not listed again. The
+definitions of the first two sections are quoted, abbreviations without their types.
+'''
+# What docs/BASE.md, which has only the claims that are quoted, says in the end.
+FOOT = '''
+`make promises` makes the lists of the other claims, and this page is what `.ci/base.py --write`
+makes.
 '''
 WORD = re.compile(r'[^\s(){},;λ→×⊎≡≢≤≥+*/∷∘\[\]↔=<>]+')
 
@@ -142,7 +140,8 @@ class Definition:
         return lines
 
     def sentence(self):
-        """The first sentence of the comment, a long one up to its first semicolon, or what the definition is of."""
+        """The first sentence of the comment, a long one up to its first semicolon, or what the
+        definition is of."""
         text = ' '.join(
             line.lstrip('- ').strip() for line in self.comment if not line.startswith('-- ----')
         )
@@ -155,7 +154,8 @@ class Definition:
 
 
 def imports_of(line):
-    """What an import line brings: pairs of a name here, and the module with the name there; a module has no name there."""
+    """What an import line brings: pairs of a name here, and the module with the name there; a
+    module has no name there."""
     found = re.match(
         r'(?:pub |ghost )?use (Rattle[\w.\-]*)(?:\.\{(.*)\})?(?: as (\w+))?;?\s*$', line
     )
@@ -244,7 +244,8 @@ class House:
                 )
 
     def find(self, module, name):
-        """The definition of a name in a module, through what is exported again; None where it is none of this repository's."""
+        """The definition of a name in a module, through what is exported again; None where it is
+        none of this repository's."""
         module = self.other_names.get(module, module)
         if module not in self.modules:
             return None
@@ -303,12 +304,14 @@ class House:
         )
         if not named:
             sys.exit(
-                f'crates/{file}: the clause {clause or "without a name"} of {function} names no definition'
+                f'crates/{file}: the clause {clause or "without a name"} of {function} names no'
+                ' definition'
             )
         return named
 
     def view_roots(self, rust, file, function, clause):
-        """The definitions by which a clause of a function sees its values: those that the views of their types name."""
+        """The definitions by which a clause of a function sees its values: those that the views of
+        their types name."""
 
         def equation(kind, head):
             found = self.named(kind.text, head)
@@ -337,7 +340,8 @@ def clause_of(file, function, clause):
 
 
 class Base:
-    """What a claim depends on: the definitions that its clauses need, and those that the views of their types add."""
+    """What a claim depends on: the definitions that its clauses need, and those that the views of
+    their types add."""
 
     def __init__(self, house, rust, clauses):
         roots = [root for clause in clauses for root in house.roots(*clause)]
@@ -378,16 +382,19 @@ def items(definitions, quoted):
     """The list of some definitions, with the text of those that are quoted."""
     for definition in definitions:
         where = f'{definition.file.partition("/")[2]}:{definition.line}'
-        yield f'- [`{definition.name}`](../{definition.file}#L{definition.line}), {where}: {definition.sentence()}'
+        yield (
+            f'- [`{definition.name}`](../{definition.file}#L{definition.line}), {where}:'
+            f' {definition.sentence()}'
+        )
         if definition in quoted:
             yield from ['', '  ```', *(f'  {line}' for line in definition.said()), '  ```', '']
 
 
-def page(found):
-    """The text of docs/BASE.md."""
+def page(found, titles):
+    """The text of a page with the bases of some claims."""
     parts, known = [HEAD], set()
     quoted = {definition for title in QUOTED for definition in found[title].all()}
-    for title, base in found.items():
+    for title, base in ((title, found[title]) for title in titles):
         names = ', '.join(
             f'`{function}`{f" ({clause})" if clause else ""}'
             for _, function, clause in CLAIMS[title].clauses
@@ -405,6 +412,11 @@ def page(found):
     return re.sub(r'\n{3,}', '\n\n', '\n'.join(parts)).rstrip('\n') + '\n'
 
 
+def short_page(found):
+    """The text of docs/BASE.md."""
+    return page(found, QUOTED) + FOOT
+
+
 def doubles(base):
     """The names that several definitions of a base have, each with the files of these."""
     named = collections.defaultdict(list)
@@ -415,23 +427,20 @@ def doubles(base):
 
 def faults(found):
     """What is not in order."""
-    if not PAGE.exists() or PAGE.read_text(encoding='utf-8') != page(found):
+    if not PAGE.exists() or PAGE.read_text(encoding='utf-8') != short_page(found):
         yield 'docs/BASE.md is not what .ci/base.py --write makes'
     for title, base in found.items():
-        for definitions, most in zip((base.definitions, base.all()), CLAIMS[title].most):
-            if size(definitions) > most:
-                yield f'{title}: {size(definitions)} lines, and at most {most} are allowed'
         for name, files in doubles(base.definitions).items() if not CLAIMS[title].is_shared else ():
             yield f'{title}: {name} means two things: {", ".join(files)}'
 
 
 def figures(found):
-    """What README.md should say of the lines that claims need, and does not."""
-    readme = (ROOT / 'README.md').read_text(encoding='utf-8')
+    """What docs/THEOREMS.md should say of the lines that claims need, and does not."""
+    theorems = (ROOT / 'docs' / 'THEOREMS.md').read_text(encoding='utf-8')
     for title, text in FIGURES.items():
         said = text.format(size(found[title].definitions), size(found[title].all()))
-        if said not in readme:
-            yield f'README.md does not say: {said}'
+        if said not in theorems:
+            yield f'docs/THEOREMS.md does not say: {said}'
 
 
 def main():
@@ -442,8 +451,11 @@ def main():
                 f'{title}: {counts(base)}; {len(doubles(base.definitions))} names mean two things'
             )
         return 0
+    if '--all' in sys.argv[1:]:
+        print(page(found, found), end='')
+        return 0
     if '--write' in sys.argv[1:]:
-        PAGE.write_text(page(found), encoding='utf-8')
+        PAGE.write_text(short_page(found), encoding='utf-8')
     told = [*faults(found), *figures(found)]
     print(*told, f'{len(found)} claims, {len(told)} faults', sep='\n')
     return 1 if told else 0

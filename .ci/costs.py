@@ -1,8 +1,10 @@
 #!/usr/bin/env python3
-"""Writes in crates/README.md what a change in each crate costs, from what `bash .ci/run` printed when it proved everything.
+"""Writes in crates/README.md what a change in each crate costs, from what `bash .ci/run` printed
+when it proved everything.
 
-Usage: .ci/costs.py LOG, where LOG is that output. Each crate has the processor minutes of its own proofs, tests and builds, of its
-must-fail edits, and of both together with all crates that depend on it.
+Usage: .ci/costs.py LOG, where LOG is that output. Each crate has the processor minutes of its own
+proofs, tests and builds, of its must-fail edits, and of both together with all crates that depend
+on it.
 """
 import datetime
 import pathlib
@@ -19,7 +21,7 @@ HEAD = """These are processor minutes of one run of `bash .ci/run` from nothing,
 
 | crate | its proofs, tests and builds | its must-fail edits | with all crates above it |
 |---|---|---|---|
-"""
+"""  # noqa: E501
 
 
 def above(crate, lower):

@@ -1,9 +1,10 @@
 #!/usr/bin/env python3
 """Keeps the list of crates in one order: .ci/crates.py [--write]
 
-Each crate has a room, by ROOMS. crates.txt must name the crates room by room, each after those that it depends on. The list of
-crates/README.md, between two marks, must be what this script makes of crates.txt and the first sentence of each crate's root file. What
-follows it is kept. With --write both are put into order.
+Each crate has a room, by ROOMS. crates.txt must name the crates room by room, each after those that
+it depends on. The list of crates/README.md, between two marks, must be what this script makes of
+crates.txt and the first sentence of each crate's root file. What follows it is kept. With --write
+both are put into order.
 """
 import re
 import sys
@@ -31,8 +32,11 @@ ROOMS = {
     'Bench': ('a picture kept up to date while it is edited', 'edits kept_audit live_audit'),
     'Outside': (
         'texts, sessions, the program and its hosts',
-        'ppm_text text_check non_text command_text report_text grade_text assess_text session program_options command_line answers published program '
-        'claims check_host web nonobench',
+        (
+            'ppm_text text_check non_text command_text report_text grade_text assess_text session'
+            ' program_options command_line answers published program claims check_host web'
+            ' nonobench'
+        ),
     ),
     'Tests': (
         'programs that only tests run',
@@ -41,10 +45,10 @@ ROOMS = {
 }
 HEAD = '''# Crates
 
-The crates in reading order, each after those that it depends on (`crates.txt`); what [a change costs](#what-a-change-costs), and [what no must-fail edit guards](#what-no-must-fail-edit-guards). [ARCHITECTURE.md](../docs/ARCHITECTURE.md) says how they work together, and [PROMISES.md](../docs/PROMISES.md) lists their public calls.
+The crates in reading order, each after those that it depends on (`crates.txt`); what [a change costs](#what-a-change-costs), and [what no must-fail edit guards](#what-no-must-fail-edit-guards). [ARCHITECTURE.md](../docs/ARCHITECTURE.md) says how they work together, and `make promises` writes a list of their public calls with their contracts.
 
 <!-- .ci/crates.py makes this part -->
-'''
+'''  # noqa: E501
 FOOT = '''<!-- .ci/crates.py made this part -->
 
 '''

@@ -3,11 +3,12 @@
 
 Usage: .ci/memory.py [-v]: with -v it also prints how many places of each kind there are.
 
-No clause can say of the system's allocator when it refuses. So this is a matter of the text. Each `AllocError` and each variant
-`Memory` in `crates/*/src` that is made must come from a call that grows memory: by `?`, whose conversion is an `impl From`; by
-`map_err` after a call of GROWING, in one line; or by an arm whose pattern is such an error. At most ten other lines are allowed.
-Each has an entry in OTHERS, with its reason, which stands for all lines of that file that read so. An entry that is not found any
-more is an error too. The crate of tests `refused` is not read.
+No clause can say of the system's allocator when it refuses. So this is a matter of the text. Each
+`AllocError` and each variant `Memory` in `crates/*/src` that is made must come from a call that
+grows memory: by `?`, whose conversion is an `impl From`; by `map_err` after a call of GROWING, in
+one line; or by an arm whose pattern is such an error. At most ten other lines are allowed. Each has
+an entry in OTHERS, with its reason, which stands for all lines of that file that read so. An entry
+that is not found any more is an error too. The crate of tests `refused` is not read.
 """
 import pathlib
 import re
@@ -16,10 +17,11 @@ import sys
 ROOT = pathlib.Path(__file__).resolve().parent.parent
 TESTS = {'refused'}
 MOST = 7
-# Calls whose only error is that memory ran out, or, for `add`, `set` and `start` of a palette and for what writes into a `Vec`,
-# whose other errors their callers rule out.
+# Calls whose only error is that memory ran out, or, for `add`, `set` and `start` of a palette and
+# for what writes into a `Vec`, whose other errors their callers rule out.
 GROWING = 'add|non_text_of|push|set|start|write_cert|write_ppm'
-# A file of crates/*/src, a line of it, and why that line makes the error although no pattern of it names one.
+# A file of crates/*/src, a line of it, and why that line makes the error although no pattern of it
+# names one.
 OTHERS = [
     (
         'command_line/src/words.rt',
@@ -86,7 +88,8 @@ def conversions(text):
 
 
 def kind_of(line):
-    """How a line makes the error: by `map_err`, by an arm that passes it on, in another way, or not at all."""
+    """How a line makes the error: by `map_err`, by an arm that passes it on, in another way, or not
+    at all."""
     pattern, _, value = line.rpartition('=>')
     mapped = MAPPED.sub('', value)
     if not MADE.search(NAMED.sub('', mapped)) or re.match(r'\s*(?:pub(?:\(crate\))? )?use\b', line):
@@ -105,9 +108,9 @@ def places():
                 kind = kind_of(line)
                 if kind:
                     at = file.relative_to(ROOT / 'crates').as_posix()
-                    yield at, number + 1, source.split('\n')[
-                        number
-                    ].strip(), 'from' if number in inside else kind
+                    yield at, number + 1, source.split('\n')[number].strip(), (
+                        'from' if number in inside else kind
+                    )
 
 
 def main():
@@ -126,7 +129,7 @@ def main():
         faults.append(f'OTHERS: {len(OTHERS)} places, and {MOST} are allowed')
     print(
         '\n'.join(faults)
-        or f'out of memory is answered where a growth was refused, and in {len(OTHERS)} other places'
+        or f'out of memory is answered where a growth was refused, and in {len(OTHERS)} other places'  # noqa: E501
     )
     if '-v' in sys.argv[1:]:
         print(', '.join(f'{kind}: {count}' for kind, count in sorted(counts.items())))

@@ -1,11 +1,12 @@
 #!/usr/bin/env python3
 """Measures where the processor time of a run of CI goes, by looking at its processes every second.
 
-Usage: .ci/minutes.py PID FILE CRATES: looks at the processes below PID until it is terminated, and then writes the processor
-minutes that it saw. FILE gets one line for each kind: proofs (of crates), edits (must-fail edits, with one more proof of the
-crate at first), tests (proofs of test functions) and builds (of programs). CRATES gets a line for each crate, the slowest first,
-with its minutes by kind. What a process does after the last look is not seen, so the sum is a little less than what the shell's
-`times` prints; the rest is spent on tests, programs and scripts.
+Usage: .ci/minutes.py PID FILE CRATES: looks at the processes below PID until it is terminated, and
+then writes the processor minutes that it saw. FILE gets one line for each kind: proofs (of crates),
+edits (must-fail edits, with one more proof of the crate at first), tests (proofs of test functions)
+and builds (of programs). CRATES gets a line for each crate, the slowest first, with its minutes by
+kind. What a process does after the last look is not seen, so the sum is a little less than what the
+shell's `times` prints; the rest is spent on tests, programs and scripts.
 """
 
 import os

@@ -1,18 +1,33 @@
 #!/usr/bin/env python3
-"""Keeps the calls of docs/PROMISES.md: .ci/promises.py [--write]
+"""Prints the promises of the engine: each public call with its comment and its contract.
 
-For each crate of the product, in the order of crates.txt: the types, traits, functions and laws that its root file makes public,
-each with the comment of its source and the clauses of its contract, word for word. They come after the line that is MARK. The part
-before it is written by hand. Without --write it says whether the page is what this script makes.
+For each crate of the product, in the order of crates.txt: the types, traits, functions and laws
+that its root file makes public, each with the comment of its source and the clauses of its
+contract, word for word.
+
+Usage: .ci/promises.py [--of COMMIT | --since COMMIT]: --of prints those of a commit, and --since
+what has changed since one, as a diff.
 """
+import difflib
+import io
 import re
+import subprocess
 import sys
+import tarfile
+import tempfile
 from pathlib import Path
 
 ROOT = Path(__file__).resolve().parent.parent
-PAGE = ROOT / 'docs' / 'PROMISES.md'
-MARK = '<!-- From here on .ci/promises.py makes this page. -->'
-# The crates of tests, and those that have laws about calls of others alone.
+FRONT = '''# Promises
+
+This page is for those who ask what exactly is proved, call by call. For each crate it lists the
+public calls, each with the comment and the contract of its source, word for word. `requires` is
+what a caller must show, `ensures` what holds after the call, and `ensures*` what holds after a
+borrow has ended. The words of clauses are definitions in crates/*/specs. The crate `claims` proves
+the claims of docs/THEOREMS.md from these clauses alone. THEOREMS says what holds of all calls, and
+docs/TRUST.md what is only tested.
+'''
+# The crates of tests, and those that have only laws about calls of others.
 OTHERS = {
     'table_words',
     'tables',
@@ -71,9 +86,10 @@ def item(name, file, comment, clauses):
     yield ''
 
 
-def calls_of(file, names, is_open):
-    """The lines of a file's public calls: functions named or in an open module, methods of types and traits that are named."""
-    lines = (ROOT / file).read_text(encoding='utf-8').split('\n')
+def calls_of(top, file, names, is_open):
+    """The lines of a file's public calls: functions named or in an open module, methods of types
+    and traits that are named."""
+    lines = (top / file).read_text(encoding='utf-8').split('\n')
     owner = None
     for at, line in enumerate(lines):
         block = BLOCK.match(line)
@@ -101,47 +117,57 @@ def calls_of(file, names, is_open):
             )
 
 
-def part_of(crate):
+def part_of(top, crate):
     """The part of the page that is about a crate."""
-    folder = ROOT / 'crates' / crate / 'src'
+    folder = top / 'crates' / crate / 'src'
     root = (folder / 'lib.rt').read_text(encoding='utf-8')
     names, modules = public_names(root)
     lines = [
         line
         for path in sorted(folder.rglob('*.rt'))
         for line in calls_of(
-            path.relative_to(ROOT).as_posix(), names, path.stem in modules or path.name == 'lib.rt'
+            top,
+            path.relative_to(top).as_posix(),
+            names,
+            path.stem in modules or path.name == 'lib.rt',
         )
     ]
-    told = re.match(r'//! (.*(?:\n//! .*)*)', root)[1].replace('\n//! ', ' ')
-    return [f'## `{crate}`', '', told, '', *lines] if lines else []
+    about = re.match(r'//! (.*(?:\n//! .*)*)', root)[1].replace('\n//! ', ' ')
+    return [f'## `{crate}`', '', about, '', *lines] if lines else []
 
 
-def page(text):
-    """The page with the part of this script made anew."""
-    front = text.split(MARK)[0].rstrip()
+def page(top):
+    """The page of a tree."""
     crates = [
         line.split(':')[0].split()[0]
-        for line in (ROOT / 'crates.txt').read_text(encoding='utf-8').splitlines()
+        for line in (top / 'crates.txt').read_text(encoding='utf-8').splitlines()
         if line.strip()
     ]
-    parts = [line for crate in crates if crate not in OTHERS for line in part_of(crate)]
-    return '\n'.join([front, '', MARK, '', *parts]).rstrip() + '\n'
+    parts = [line for crate in crates if crate not in OTHERS for line in part_of(top, crate)]
+    return '\n'.join([FRONT, *parts]).rstrip() + '\n'
+
+
+def page_of(commit):
+    """The page of the tree of a commit."""
+    words = ['git', '-C', str(ROOT), 'archive', commit, 'crates', 'crates.txt']
+    packed = subprocess.run(words, capture_output=True, check=True).stdout
+    with tempfile.TemporaryDirectory() as folder:
+        with tarfile.open(fileobj=io.BytesIO(packed)) as archive:
+            archive.extractall(folder)
+        return page(Path(folder))
 
 
 def main(words):
-    """Writes the page where asked, or says whether it is stale."""
-    if words not in ([], ['--write']):
-        sys.exit('usage: .ci/promises.py [--write]')
-    text = PAGE.read_text(encoding='utf-8')
-    made = page(text)
-    if words:
-        PAGE.write_text(made, encoding='utf-8')
-    elif made != text:
-        print('docs/PROMISES.md is stale: run .ci/promises.py --write')
-        return 1
-    return 0
+    if not words:
+        print(page(ROOT), end='')
+    elif len(words) == 2 and words[0] == '--of':
+        print(page_of(words[1]), end='')
+    elif len(words) == 2 and words[0] == '--since':
+        before, now = page_of(words[1]).splitlines(), page(ROOT).splitlines()
+        print(*difflib.unified_diff(before, now, words[1], 'now', lineterm=''), sep='\n')
+    else:
+        sys.exit('usage: .ci/promises.py [--of COMMIT | --since COMMIT]')
 
 
 if __name__ == '__main__':
-    sys.exit(main(sys.argv[1:]))
+    main(sys.argv[1:])

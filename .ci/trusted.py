@@ -1,10 +1,11 @@
 #!/usr/bin/env python3
-"""Keeps in docs/TRUST.md what the proofs of the programs that ship rest on: the last line of each crate's check, and the functions in C
-whose contracts it reaches.
+"""Keeps in docs/TRUST.md what the proofs of the programs that ship rest on: the last line of each
+crate's check, and the functions in C whose contracts it reaches.
 
-Usage: .ci/trusted.py LOG [--write]. LOG is what `rt ci` printed, which is compared with the page. With --write the page gets what LOG
-has of these crates. It then is best what `rt check --list-axioms` printed in the folder of each, below a line `== CRATE`: that names
-each function, where `rt ci` names three of each crate.
+Usage: .ci/trusted.py LOG [--write]. LOG is what `rt ci` printed, which is compared with the page.
+With --write the page gets what LOG has of these crates. It then is best what `rt check
+--list-axioms` printed in the folder of each, below a line `== CRATE`: that names each function,
+where `rt ci` names three of each crate.
 """
 import re
 import sys
@@ -17,8 +18,8 @@ SHIPPED = {
     'web': 'the library, which is also compiled to the module',
     'check_host': 'the checker alone, library and module',
 }
-# What says how large a crate is, or how its check was run: a check by hand keeps what earlier ones found, and CI does not. The other words
-# say what a proof rests on.
+# What says how large a crate is, or how its check was run: a check by hand keeps what earlier ones
+# found, and CI does not. The other words say what a proof rests on.
 OTHER = re.compile(r'functions=|incremental=|batches=')
 
 
@@ -61,11 +62,15 @@ def reached(lines):
 def item(crate, lines):
     """What the check of a crate printed, as an item of the list."""
     words = last_words(lines)
-    return f'- `{crate}`, {SHIPPED[crate]}: {" ".join(f"`{word}`" for word in words)}. {reached(lines)}\n'
+    return (
+        f'- `{crate}`, {SHIPPED[crate]}: {" ".join(f"`{word}`" for word in words)}.'
+        f' {reached(lines)}\n'
+    )
 
 
 def faults(found, kept):
-    """The crates whose last line in a log of CI has a word that their item does not have. An item that is missing is told, no more."""
+    """The crates whose last line in a log of CI has a word that their item does not have. An item
+    that is missing is told, no more."""
     for crate in SHIPPED:
         line = next((line for line in kept.splitlines() if line.startswith(f'- `{crate}`')), None)
         words = last_words(found.get(crate, []))
@@ -73,7 +78,9 @@ def faults(found, kept):
             print(f'docs/TRUST.md has no item of {crate} yet: .ci/trusted.py LOG --write makes it')
         for word in words if line is not None else ():
             if f'`{word}`' not in line:
-                yield f'docs/TRUST.md: the proof of {crate} rests on {word}, which is not said there'
+                yield (
+                    f'docs/TRUST.md: the proof of {crate} rests on {word}, which is not said there'
+                )
 
 
 def main(words):

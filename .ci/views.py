@@ -1,9 +1,11 @@
-"""What clauses see of Rust types: the definitions that the views of the types of a clause's values name.
+"""What clauses see of Rust types: the definitions that the views of the types of a clause's values
+name.
 
-A type with an `impl Model` is seen through its view; a type without one is seen as its fields. A view names definitions, and fields
-whose types have views of their own; these are followed too. Where a clause names one field of a value, as `history` in
-`self.old.history`, and the view fills the fields of a record one by one, only that field's argument is followed. Types of the
-toolchain, and ghost fields, are left out.
+A type with an `impl Model` is seen through its view; a type without one is seen as its fields. A
+view names definitions, and fields whose types have views of their own; these are followed too.
+Where a clause names one field of a value, as `history` in `self.old.history`, and the view fills
+the fields of a record one by one, only that field's argument is followed. Types of the toolchain,
+and ghost fields, are left out.
 """
 import re
 
@@ -13,7 +15,8 @@ FIELD = re.compile(r'^ +(?:pub(?:\(\w+\))? )?(\w+): ([^{}\n]*),$', re.M)
 
 
 class RustType:
-    """A struct or an enum: its file, the types of its fields by name, and of its Model the value's type and the view."""
+    """A struct or an enum: its file, the types of its fields by name, and of its Model the value's
+    type and the view."""
 
     def __init__(self, path, text, kind, body):
         self.path, self.text = path, text
@@ -46,7 +49,8 @@ class RustTypes:
                     self.types[crate, found[1]].follow(found[0])
 
     def find(self, name, path, text):
-        """The type of this name in a file: one of its crate, or one of the crate from which the file imports it."""
+        """The type of this name in a file: one of its crate, or one of the crate from which the
+        file imports it."""
         crate = path.relative_to(self.crates).parts[0]
         brought = re.search(rf'^use (\w+)(?:::\w+)*::(?:\{{[^;]*\b)?{name}\b', text, re.M)
         return self.types.get((crate, name)) or self.types.get(
@@ -65,7 +69,8 @@ def arguments(text):
 
 
 def seen_part(view, projection, equation):
-    """The part of a view that a projection reads: one argument where the view fills a record's fields by name, else all of it."""
+    """The part of a view that a projection reads: one argument where the view fills a record's
+    fields by name, else all of it."""
     head, *given = arguments(view)
     parameters = (equation(head) or '').split('=')[0].split()[1:]
     if projection in parameters and len(parameters) == len(given):
@@ -74,9 +79,11 @@ def seen_part(view, projection, equation):
 
 
 def views_of(rust, kinds, equation):
-    """The views, with their values' types, of some types and of the fields that they read: pairs of a RustType and a text.
+    """The views, with their values' types, of some types and of the fields that they read: pairs of
+    a RustType and a text.
 
-    `kinds` are pairs of a type and a projection or None; `equation` gives the first line of a definition by its name in a view.
+    `kinds` are pairs of a type and a projection or None; `equation` gives the first line of a
+    definition by its name in a view.
     """
     waiting, seen = list(kinds), set()
     while waiting:
@@ -105,7 +112,10 @@ def views_of(rust, kinds, equation):
 def values_of(rust, path, text, function):
     """The types of a function's values: of self, of each parameter and of the result, by name."""
     found = re.search(
-        rf'^( *)(?:pub(?:\(\w+\))? )?(?:extern "C" )?fn {function}(?:<[^()]*>)?\((.*?)^ *(?:requires|ensures)',
+        (
+            rf'^( *)(?:pub(?:\(\w+\))? )?(?:extern "C" )?fn {function}(?:<[^()]*>)?\((.*?)^'
+            r' *(?:requires|ensures)'
+        ),
         text,
         re.M | re.S,
     )
@@ -121,7 +131,8 @@ def values_of(rust, path, text, function):
 
 
 def named_in(clause, values):
-    """The types of the values that a clause names, each with the field of it that is named, if one is."""
+    """The types of the values that a clause names, each with the field of it that is named, if one
+    is."""
     for name, rest in re.findall(r'(?<![\w.])(\w+)((?:\.\w+)*)', clause):
         fields = [
             field
