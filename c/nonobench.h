@@ -6,8 +6,8 @@
  * the desk; they suit most programs.
  *
  * Each call of the library is proved, from the bytes that it is passed to its status and text:
- * docs/PROMISES.md has the clauses. An accepted certificate proves that no other picture of that
- * size has the clues and the colours in its givens. Nothing checks that the caller meets its
+ * docs/THEOREMS.md says what that means. An accepted certificate proves that no other picture of
+ * that size has the clues and the colours in its givens. Nothing checks that the caller meets its
  * obligations:
  *   - a pointer leads to as many bytes as the length that goes with it says. In a call of the
  * library it is not null, even with the length 0; only nonobench_end accepts a null and does
@@ -34,7 +34,7 @@ extern "C" {
 #endif
 
 /* The version of this header. nonobench_version gives the version of the library. */
-#define NONOBENCH_VERSION "0.7.9"
+#define NONOBENCH_VERSION "0.8.0"
 
 /* How many bytes a picture, a certificate or a file of givens may have, as for the program. The
  * library itself accepts any length. */
@@ -87,7 +87,7 @@ uint32_t nonobench_open(
     uint32_t *handle
 );
 
-/* Answers lines of commands as a session does (docs/FORMATS.md). The answers are the text. */
+/* Answers lines of commands as a session does (docs/SESSION.md). The answers are the text. */
 uint32_t nonobench_say(nonobench_desk **desk, uint32_t handle, const uint8_t *lines, size_t size);
 
 /* Copies the text of the last call as far as there is room, and answers how many bytes it has. No
@@ -295,7 +295,7 @@ typedef enum nonobench_grade {
 
 #define NONOBENCH_MOST_ALIKE 120
 
-/* Whether a puzzle is fit to be published (docs/FORMATS.md, nonobench assess). A later version may
+/* Whether a puzzle is fit to be published (docs/SESSION.md, nonobench assess). A later version may
  * have more fields behind these: `size`, which the caller sets to sizeof(nonobench_assessment),
  * says how many bytes are written. A cell that there is not has row 0. */
 typedef struct nonobench_assessment {

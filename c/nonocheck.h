@@ -2,9 +2,9 @@
  * and has no search in it.
  *
  * Link with libnonocheck.a or libnonocheck.so (c/build). Each call is proved, from the bytes that
- * it is passed to its status and text: docs/PROMISES.md has the clauses. An accepted certificate
- * proves that no other picture of that size has the clues and the colours in its givens. Nothing
- * checks that the caller meets its obligations:
+ * it is passed to its status and text: docs/THEOREMS.md says what that means. An accepted
+ * certificate proves that no other picture of that size has the clues and the colours in its
+ * givens. Nothing checks that the caller meets its obligations:
  *   - a pointer leads to as much as the length that goes with it says, and is not null, even with
  * the length 0;
  *   - what a call writes to does not overlap anything else that it is passed.
@@ -23,7 +23,7 @@ extern "C" {
 #endif
 
 /* The version of this header. nonocheck_version gives the version of the library. */
-#define NONOCHECK_VERSION "0.7.9"
+#define NONOCHECK_VERSION "0.8.0"
 
 /* How much room the longest text needs, with a NUL behind it. */
 #define NONOCHECK_ROOM ((size_t)96)

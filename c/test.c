@@ -1,6 +1,6 @@
 /* Tests of libnonobench: test FOLDER [TIMES], with the folder that has pictures.case,
  * certificates.case, lemmas.case and published.case. TIMES is how often what could grow is done.
- * Expected answers stand in those files, or follow from docs/FORMATS.md by hand. */
+ * Expected answers stand in those files, or follow from docs/SESSION.md by hand. */
 #include "cases.h"
 #include "nonobench.h"
 

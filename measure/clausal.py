@@ -1,11 +1,13 @@
 #!/usr/bin/env python3
-"""Measures clausal proofs that a picture is the only one with its clues: measure/clausal.py CSV FOLDER .. [--seconds N]
+"""Measures clausal proofs that a picture is the only one with its clues: measure/clausal.py CSV
+FOLDER .. [--seconds N]
 
-For each picture that the CSV of others.py calls unique, cadical gets the clauses of others.py, and writes a DRAT proof that they have
-no solution. lrat.cpp adds hints to it (LRAT), and a checker that is verified in ACL2 checks the result: Debian's books
-projects/sat/lrat/stobj-based, with their certificates. Each step has N seconds of one processor, by default 10, and is a process of its
-own. The rows, with the lengths of both proofs, are put into the CSV, in place of those of an earlier run.
-In Debian: apt-get install cadical acl2-books g++.
+For each picture that the CSV of others.py calls unique, cadical gets the clauses of others.py, and
+writes a DRAT proof that they have no solution. lrat.cpp adds hints to it (LRAT), and a checker that
+is verified in ACL2 checks the result: Debian's books projects/sat/lrat/stobj-based, with their
+certificates. Each step has N seconds of one processor, by default 10, and is a process of its own.
+The rows, with the lengths of both proofs, are put into the CSV, in place of those of an earlier
+run. In Debian: apt-get install cadical acl2-books g++.
 """
 import argparse
 import subprocess
@@ -23,7 +25,8 @@ BOOK = '(include-book "projects/sat/lrat/stobj-based/run" :dir :system)\n'
 
 
 def proof(limit, lrat, picture):
-    """The rows of a picture's proof: each step with its time, and the length of what it wrote. A proof that is refused is an error."""
+    """The rows of a picture's proof: each step with its time, and the length of what it wrote. A
+    proof that is refused is an error."""
     write_clauses(Task(read_ppm(picture.read_bytes()).rows), limit.folder / 'clauses')
     printed, took = limit.run(['cadical', '-q', 'clauses', 'proof'])
     if printed is None or 'UNSATISFIABLE' not in printed:

@@ -1,10 +1,12 @@
 #!/usr/bin/env python3
 """Opens puzzles of which only the clues are known: measure/from_clues.py PROGRAM [FOLDER ..]
 
-PROGRAM is `nonobench`. It opens .non texts without a goal, so it has to find a picture first. The puzzles are made here, always the same
-ones: blobs, lines, icons (symmetric), caves (a cellular automaton), rings and noise of 20 to 40 cells a side, noise of several densities,
-rings upon rings, chequers and stripes. Of each P3 picture in the folders that has one colour besides white, the clues are a puzzle too.
-Each may take 10 seconds of processor time. It prints a row for each with its seconds, and at the end how many are open.
+PROGRAM is `nonobench`. It opens .non texts without a goal, so it has to find a picture first. The
+puzzles are made here, always the same ones: blobs, lines, icons (symmetric), caves (a cellular
+automaton), rings and noise of 20 to 40 cells a side, noise of several densities, rings upon rings,
+chequers and stripes. Of each P3 picture in the folders that has one colour besides white, the clues
+are a puzzle too. Each may take 10 seconds of processor time. It prints a row for each with its
+seconds, and at the end how many are open.
 """
 import math
 import random

@@ -1,10 +1,12 @@
 #!/usr/bin/env python3
-"""Makes a set of icons as plain PPM pictures: glyphs of two fonts in black and white, and emoji in three to six colours.
+"""Makes a set of icons as plain PPM pictures: glyphs of two fonts in black and white, and emoji in
+three to six colours.
 
-Usage: measure/icons.py FOLDER [SEED [SET]]. The seed (by default 7) chooses code points among those of the set's fonts. SET is
-`first`, `second` or `third`; no glyph is in two of them. It needs Pillow (python3-pil). Fonts are Debian's: fonts-symbola,
-fonts-dejavu-core and fonts-noto-color-emoji; fonts-font-awesome and fonts-opensymbol; fonts-materialdesignicons-webfont and
-fonts-elusive-icons. A font that is missing is named.
+Usage: measure/icons.py FOLDER [SEED [SET]]. The seed (by default 7) chooses code points among those
+of the set's fonts. SET is `first`, `second` or `third`; no glyph is in two of them. It needs Pillow
+(python3-pil). Fonts are Debian's: fonts-symbola, fonts-dejavu-core and fonts-noto-color-emoji;
+fonts-font-awesome and fonts-opensymbol; fonts-materialdesignicons-webfont and fonts-elusive-icons.
+A font that is missing is named.
 """
 
 import collections
@@ -18,7 +20,8 @@ SIZES = (15, 20, 25)
 WHITE = (255, 255, 255)
 EMOJI = "/usr/share/fonts/truetype/noto/NotoColorEmoji.ttf"
 TRUETYPE = "/usr/share/fonts/truetype"
-# For each letter of a name: the font, its points, the code points to draw from, and how many glyphs are wanted.
+# For each letter of a name: the font, its points, the code points to draw from, and how many glyphs
+# are wanted.
 SETS = {
     "first": {
         "s": (
@@ -64,7 +67,8 @@ SETS = {
 
 
 def drawn(font, code, is_colour):
-    """A glyph on a white square that it fills, or None where the font has none or nearly nothing."""
+    """A glyph on a white square that it fills, or None where the font has none or nearly
+    nothing."""
     image = Image.new("RGB", (1200, 1200), WHITE)
     ImageDraw.Draw(image).text((300, 300), chr(code), font=font, fill=0, embedded_color=is_colour)
     box = ImageChops.difference(image, Image.new("RGB", image.size, WHITE)).getbbox()
@@ -78,7 +82,8 @@ def drawn(font, code, is_colour):
 
 
 def cells_of(square, size, colours):
-    """The cells of an icon: black where a half is dark, or the colours of the emoji, white around it."""
+    """The cells of an icon: black where a half is dark, or the colours of the emoji, white around
+    it."""
     if colours == 2:
         small = square.convert("L").resize((size, size), Image.BOX)
         return [(0, 0, 0) if value < 128 else WHITE for value in small.getdata()]

@@ -1,10 +1,12 @@
 #!/usr/bin/env python3
-"""Compares proofs by lemmas with certificates and with a native trial: measure/lemmas.py NATIVE PROGRAM
+"""Compares proofs by lemmas with certificates and with a native trial: measure/lemmas.py NATIVE
+PROGRAM
 
-NATIVE is a folder with P3 files in `pictures/` and `hard/`, and the sources `lemcert.cpp` and `lemcheck_min.cpp` of the trial in
-`lemmas/`. PROGRAM is `nonobench`. It needs g++ and valgrind. Of each picture it prints the bytes of its certificate and of its proof,
-and the instructions with which each proof is checked: ours by `check`, the trial's by its checker. What a picture of one cell takes is
-subtracted. A picture that takes more than 10 seconds is left out, and counted.
+NATIVE is a folder with P3 files in `pictures/` and `hard/`, and the sources `lemcert.cpp` and
+`lemcheck_min.cpp` of the trial in `lemmas/`. PROGRAM is `nonobench`. It needs g++ and valgrind. Of
+each picture it prints the bytes of its certificate and of its proof, and the instructions with
+which each proof is checked: ours by `check`, the trial's by its checker. What a picture of one cell
+takes is subtracted. A picture that takes more than 10 seconds is left out, and counted.
 """
 import statistics
 import subprocess
@@ -55,7 +57,7 @@ def proofs(pictures, work, program, maker, checker):
     proof, nested = work / 'proof', work / 'nested'
     sizes, ratios = [], []
     print(
-        f'{"picture":<26} {"verdict":<10} {"certificate":>12} {"proof":>10} {"verify":>14} {"trial":>14} {"times":>6}'
+        f'{"picture":<26} {"verdict":<10} {"certificate":>12} {"proof":>10} {"verify":>14} {"trial":>14} {"times":>6}'  # noqa: E501
     )
     for picture in pictures:
         verdict = answer(said([program, 'work', picture], 'verdict\n'))
@@ -78,13 +80,16 @@ def proofs(pictures, work, program, maker, checker):
         ratios += [ours / theirs] if theirs else []
         times = f'{ours / theirs:.2f}' if theirs else '-'
         print(
-            f'{picture.stem:<26} {verdict:<10} {length or "-":>12} {len(text):>10} {ours:>14} {theirs or "-":>14} {times:>6}',
+            (
+                f'{picture.stem:<26} {verdict:<10} {length or "-":>12} {len(text):>10} {ours:>14} {theirs or "-":>14} {times:>6}'  # noqa: E501
+            ),
             flush=True,
         )
     made = [length for length, _ in sizes if length]
     print(
-        f'median of {len(made)} certificates: {statistics.median(made):.0f} bytes, of {len(sizes)} proofs: '
-        f'{statistics.median(size for _, size in sizes):.0f}; proofs above 1 MiB: {sum(size > 1 << 20 for _, size in sizes)}'
+        f'median of {len(made)} certificates: {statistics.median(made):.0f} bytes, of'
+        f' {len(sizes)} proofs: {statistics.median(size for _, size in sizes):.0f}; proofs above 1'
+        f' MiB: {sum(size > 1 << 20 for _, size in sizes)}'
     )
     print(
         f'checks: median {statistics.median(ratios):.2f} times the trial, largest {max(ratios):.2f}'

@@ -1,19 +1,21 @@
 #!/usr/bin/env python3
 """Counts instructions, compared with a native program: measure/native.py NATIVE [FIGURE ..]
 
-NATIVE is a folder with the sources `nonoref.cpp` and `treecert.cpp`, P3 files in `pictures/` and `hard/`, and sessions in
-`sessions/`, each named after one of these pictures, as `NUMBER-KIND_PICTURE.txt`. The sources are built in a folder that is deleted
-at the end. They settle, judge and write trees in the same way, with words of 64 bits for pictures of at most 63 cells a side. It
-needs g++, valgrind, and the programs `nonobench` and `tables` that bash .ci/run leaves. A FIGURE is one of these; without any, all are
-measured:
+NATIVE is a folder with the sources `nonoref.cpp` and `treecert.cpp`, P3 files in `pictures/` and
+`hard/`, and sessions in `sessions/`, each named after one of these pictures, as
+`NUMBER-KIND_PICTURE.txt`. The sources are built in a folder that is deleted at the end. They
+settle, judge and write trees in the same way, with words of 64 bits for pictures of at most 63
+cells a side. It needs g++, valgrind, and the programs `nonobench` and `tables` that bash .ci/run
+leaves. A FIGURE is one of these; without any, all are measured:
 
-line      an evaluation and leaving out by `tables`, in instructions; lines that are open and half settled
-strokes   sessions with `map` after each edit instead of their questions, without opening and start
-verdict   a session of one `verdict`, without the start
-certify   a session of one `certify` on `hard/`, compared with treecert, without the starts
+line      an evaluation and leaving out by `tables`, in instructions; lines that are open and half
+settled strokes   sessions with `map` after each edit instead of their questions, without opening
+and start verdict   a session of one `verdict`, without the start certify   a session of one
+`certify` on `hard/`, compared with treecert, without the starts
 
-A start is what a picture of one cell takes. It prints a row for each picture or session, and the median and the largest of each
-figure. A picture for which the native program takes more than SECONDS is left out.
+A start is what a picture of one cell takes. It prints a row for each picture or session, and the
+median and the largest of each figure. A picture for which the native program takes more than
+SECONDS is left out.
 """
 import re
 import statistics
@@ -78,13 +80,14 @@ class Table:
     def end(self):
         if self.ratios:
             print(
-                f'{self.figure}: median {statistics.median(self.ratios):.2f}, largest {max(self.ratios):.2f}, of {len(self.ratios)}'
+                f'{self.figure}: median {statistics.median(self.ratios):.2f}, largest'
+                f' {max(self.ratios):.2f}, of {len(self.ratios)}'
             )
 
 
 def line(native, folder, start):
     print(
-        f'\nline\n{"cells":>8} {"blocks":>8} {"settled":>8} {"evaluation":>12} {"leave_out":>12} {"times":>8}'
+        f'\nline\n{"cells":>8} {"blocks":>8} {"settled":>8} {"evaluation":>12} {"leave_out":>12} {"times":>8}'  # noqa: E501
     )
     swept, rounds = [], 200
     for cells in (120, 65, 64, 63, 62, 30, 15):
@@ -101,7 +104,9 @@ def line(native, folder, start):
                     cost.append((many - few) / rounds)
                 swept.append(cost[1] / cost[0])
                 print(
-                    f'{cells:>8} {blocks:>8} {settled:>8} {cost[0]:>12.0f} {cost[1]:>12.0f} {cost[1] / cost[0]:>8.2f}',
+                    (
+                        f'{cells:>8} {blocks:>8} {settled:>8} {cost[0]:>12.0f} {cost[1]:>12.0f} {cost[1] / cost[0]:>8.2f}'  # noqa: E501
+                    ),
                     flush=True,
                 )
     print(f'leave_out: median {statistics.median(swept):.2f} evaluations, largest {max(swept):.2f}')
@@ -136,7 +141,8 @@ def strokes(native, folder, start):
 
 
 def compared(table, pictures, asked, theirs, starts):
-    """A row for each picture: a session of one command, and a native program on it, both without their starts."""
+    """A row for each picture: a session of one command, and a native program on it, both without
+    their starts."""
     for picture in sorted(pictures.glob('*.ppm')):
         runs = ([OURS, 'work', picture], asked), theirs(picture)
         costs = (
@@ -170,8 +176,9 @@ def certify(native, folder, start):
 
 
 def build(source, program):
-    """Compiles a native program. It is not linked statically: at its first exception a static one sorts the unwinder's tables, in five
-    million instructions that are no search. All symbols are found at the start, which is taken off.
+    """Compiles a native program. It is not linked statically: at its first exception a static one
+    sorts the unwinder's tables, in five million instructions that are no search. All symbols are
+    found at the start, which is taken off.
     """
     subprocess.run(
         ['g++', '-std=c++17', '-O3', '-march=x86-64-v3', '-Wl,-z,now', '-w', '-o', program, source],

@@ -1,29 +1,35 @@
 #!/usr/bin/env python3
-"""Measures who decides within a time whether a picture is the only one with its clues: measure/others.py PROGRAM FOLDER .. [--seconds N]
-[--others CSV] [--class NAME=PATTERN,..] [--tuned FOLDER] [--csv FILE] [--svg FILE]
+"""Measures who decides within a time whether a picture is the only one with its clues:
+measure/others.py PROGRAM FOLDER .. [--seconds N] [--others CSV] [--class NAME=PATTERN,..] [--tuned
+FOLDER] [--csv FILE] [--svg FILE]
 
-Each P3 picture of the folders is given to nonobench (`verdict`) and to the solvers that are installed: minisat and cadical (clauses),
-gringo with clasp (an answer set program), gecode (`extensional` for each line, the cell of most failures for its colours first).
-In Debian: apt-get install minisat cadical gringo clasp libgecode-dev g++.
-Each gets N seconds of one processor (by default 10) for the whole answer, including gringo's; writing the text that a solver reads
-is not counted. Answers are compared with each other, and each other picture that a solver finds is checked. If nonobench answers
-`unique`, its certificate is made, checked by `nonobench check` and measured, each step in a process of its own. The same is done with
-certificates with lemmas, also for pictures that the verdict left open.
+Each P3 picture of the folders is given to nonobench (`verdict`) and to the solvers that are
+installed: minisat and cadical (clauses), gringo with clasp (an answer set program), gecode
+(`extensional` for each line, the cell of most failures for its colours first). In Debian: apt-get
+install minisat cadical gringo clasp libgecode-dev g++. Each gets N seconds of one processor (by
+default 10) for the whole answer, including gringo's; writing the text that a solver reads is not
+counted. Answers are compared with each other, and each other picture that a solver finds is
+checked. If nonobench answers `unique`, its certificate is made, checked by `nonobench check` and
+measured, each step in a process of its own. The same is done with certificates with lemmas, also
+for pictures that the verdict left open.
 
-With `--others`, only nonobench is measured, and the rows of the other solvers are taken from the CSV of an earlier run over the same
-pictures and classes.
+With `--others`, only nonobench is measured, and the rows of the other solvers are taken from the
+CSV of an earlier run over the same pictures and classes.
 
-It prints the tables of docs/COMPARISON.md, and writes its rows as CSV and its plot as SVG; others_plot.py makes tables and plot again
-from the CSV. A picture belongs to the first class with a pattern that its file's name matches, or else to `other`. The pictures of the
-folders `--tuned` are those on which an earlier nonobench was improved; a further table leaves them out.
+It prints the tables of docs/COMPARISON.md, and writes its rows as CSV and its plot as SVG;
+others_plot.py makes tables and plot again from the CSV. A picture belongs to the first class with a
+pattern that its file's name matches, or else to `other`. The pictures of the folders `--tuned` are
+those on which an earlier nonobench was improved; a further table leaves them out.
 
-A line is described by a deterministic automaton over its cells, the same for all: its state is how many of the clue's cells, and of
-the gaps that must be between blocks of one colour, have been read. A solver is asked for a picture that these automata accept and
-that differs from the known one in some cell.
+A line is described by a deterministic automaton over its cells, the same for all: its state is how
+many of the clue's cells, and of the gaps that must be between blocks of one colour, have been read.
+A solver is asked for a picture that these automata accept and that differs from the known one in
+some cell.
 
 docs/COMPARISON.md was made so; the first folder has the pictures that nonobench was improved on:
 
-nice -n 5 measure/others.py PROGRAM FOLDER FOLDER --tuned FOLDER --csv docs/comparison.csv --svg docs/comparison.svg
+nice -n 5 measure/others.py PROGRAM FOLDER FOLDER --tuned FOLDER --csv docs/comparison.csv --svg
+docs/comparison.svg
   --class 'icons=adwaita-*,flag-*,fvwm-*,gnome-*,njam-*,picmi-*,silk-*,tango-*,xbm-*'
   --class 'random and hard=blob-*,hard-*,noise-*' --class 'patterns=*'
 """
@@ -41,7 +47,7 @@ from statistics import median
 sys.dont_write_bytecode = True
 ROOT = Path(__file__).resolve().parent.parent
 sys.path.insert(0, str(ROOT / 'tests/references'))
-from others_plot import (
+from others_plot import (  # noqa: E402
     CERTIFY,
     CHECK,
     PROVE,
@@ -52,13 +58,13 @@ from others_plot import (
     print_tables,
     read_rows,
     write_rows,
-)  # noqa: E402
+)
 from reference.faults import Fault  # noqa: E402
 from reference.lines import clues_of, line_of, names  # noqa: E402
 from reference.pictures import read_ppm  # noqa: E402
 from reference.search import is_other  # noqa: E402
 
-GECODE = '-lgecodedriver -lgecodesearch -lgecodeminimodel -lgecodeint -lgecodekernel -lgecodesupport'.split()
+GECODE = '-lgecodedriver -lgecodesearch -lgecodeminimodel -lgecodeint -lgecodekernel -lgecodesupport'.split()  # noqa: E501
 ASP = '''1 { x(R,C,K) : colour(K) } 1 :- cell(R,C).
 state(A,L,0,0) :- length(A,L,_).
 state(A,L,I+1,T) :- state(A,L,I,S), at(A,L,I,R,C), x(R,C,K), next(A,L,S,K,T).
@@ -71,11 +77,13 @@ step(A,L,S,K) :- next(A,L,S,K,_).
 
 
 def automaton(clue):
-    """The steps of a line's automaton, as a state and a colour to a state, and its last state. It begins in state 0."""
+    """The steps of a line's automaton, as a state and a colour to a state, and its last state. It
+    begins in state 0."""
     steps, at = {(0, 0): 0}, 0
     for number, (length, colour) in enumerate(clue):
         if number and clue[number - 1][1] == colour:
-            # A gap must come before a block of the same colour: the state after a block does not stay.
+            # A gap must come before a block of the same colour: the state after a block does not
+            # stay.
             del steps[at, 0]
             steps[at, 0] = at + 1
             at += 1
@@ -107,7 +115,8 @@ class Task:
 
 
 def clauses_of(task):
-    """The task as clauses: their number of variables and the clauses; a cell's colour is the variable of `number`."""
+    """The task as clauses: their number of variables and the clauses; a cell's colour is the
+    variable of `number`."""
     number = {}
 
     def of(*key):
@@ -132,7 +141,8 @@ def clauses_of(task):
 
 
 def line_clauses(task, of, line, steps, last):
-    """The clauses of a line: from the first state to the last, each step forward, and what supports a colour and a state."""
+    """The clauses of a line: from the first state to the last, each step forward, and what supports
+    a colour and a state."""
     length = task.length(line)
     front = [{0}]
     for _ in range(length):
@@ -357,7 +367,8 @@ def judged(task, answer):
 
 
 def certificate(program, limit, words, asked, names):
-    """The rows of a certificate: its length and the time to make it, and the time to check it. One that is refused is an error."""
+    """The rows of a certificate: its length and the time to make it, and the time to check it. One
+    that is refused is an error."""
     (_, picture), (make, check) = words, names
     printed, took = limit.run([program, *words], asked)
     if printed in (None, 'undecided\n', 'ambiguous\n'):
@@ -370,7 +381,8 @@ def certificate(program, limit, words, asked, names):
 
 
 def answers(found, program, limit, picture):
-    """What each solver says of a picture, and its certificate: program, answer, seconds, bytes. Answers that disagree are an error."""
+    """What each solver says of a picture, and its certificate: program, answer, seconds, bytes.
+    Answers that disagree are an error."""
     task = Task(read_ppm(picture.read_bytes()).rows)
     rows = []
     for name, solve in found.items():
@@ -398,7 +410,8 @@ class Naming:
         self.tuned = {file.resolve() for one in tuned for file in Path(one).rglob('*.ppm')}
 
     def of(self, picture):
-        """What the rows say of a picture: its name, its class, and whether nonobench was improved on it."""
+        """What the rows say of a picture: its name, its class, and whether nonobench was improved
+        on it."""
         fits = (
             name
             for name, patterns in self.classes
@@ -412,7 +425,8 @@ class Naming:
 
 
 def kept_rows(earlier, own):
-    """The earlier rows of a picture, whose row by nonobench is given. It is an error if they are missing, or if they disagree."""
+    """The earlier rows of a picture, whose row by nonobench is given. It is an error if they are
+    missing, or if they disagree."""
     rows = earlier.get(own['picture'], [])
     if not rows or any(
         str(row[key]) != str(own[key])
@@ -422,7 +436,8 @@ def kept_rows(earlier, own):
         raise SystemExit(f'{own["picture"]}: not in the earlier run')
     if len({row['answer'] for row in [own, *rows]} - {'open'}) > 1:
         raise SystemExit(
-            f'{own["picture"]}: they disagree: {own["answer"]}, earlier {[row["answer"] for row in rows]}'
+            f'{own["picture"]}: they disagree: {own["answer"]}, earlier'
+            f' {[row["answer"] for row in rows]}'
         )
     return rows
 

@@ -1,9 +1,10 @@
 #!/usr/bin/env python3
-"""Prints the tables of docs/COMPARISON.md from the rows that others.py wrote, and draws its plot: measure/others_plot.py CSV [SVG]
+"""Prints the tables of docs/COMPARISON.md from the rows that others.py wrote, and draws its plot:
+measure/others_plot.py CSV [SVG]
 
-With --said DOCUMENT it prints nothing: each row of the tables must be in the document, whatever its first cell says, and the SVG must
-be the plot.
-The plot has a line for each program: how many pictures it decides if it gets so much processor time for each.
+With --said DOCUMENT it prints nothing: each row of the tables must be in the document, whatever its
+first cell says, and the SVG must be the plot. The plot has a line for each program: how many
+pictures it decides if it gets so much processor time for each.
 """
 import csv
 import math
@@ -29,7 +30,8 @@ CERTIFY, CHECK = 'nonobench certify', 'nonobench check'
 PROVE, VERIFY = 'nonobench prove', 'nonobench verify'
 # The steps of a clausal proof, which clausal.py measures.
 CLAUSAL, HINTS, VERIFIED = 'cadical, DRAT', 'hints, LRAT', 'acl2, check'
-# Colours that the colour blind tell apart, a dash and a mark for each program, in the order of the rows.
+# Colours that the colour blind tell apart, a dash and a mark for each program, in the order of the
+# rows.
 STYLES = [
     ('#0072b2', '', 'circle'),
     ('#d55e00', '7 3', 'square'),
@@ -85,15 +87,17 @@ def of_solvers(rows):
 
 def answer_table(rows):
     """What each program answered, in how much time."""
-    yield '| | unique | ambiguous | open | all together, s | median, ms |\n|---|---|---|---|---|---|'
+    yield (
+        '| | unique | ambiguous | open | all together, s | median, ms |\n|---|---|---|---|---|---|'
+    )
     # An open picture counts all the time that it had, also if a program gave up before.
     most = max(row['seconds'] for row in rows)
     for name, done in by('program', of_solvers(rows)).items():
         said = [row['answer'] for row in done]
         took = [most if row['answer'] == 'open' else row['seconds'] for row in done]
         yield (
-            f'| {name} | {said.count("unique")} | {said.count("ambiguous")} | {said.count("open")} | {sum(took):.1f} | '
-            f'{1000 * median(took):.0f} |'
+            f'| {name} | {said.count("unique")} | {said.count("ambiguous")} |'
+            f' {said.count("open")} | {sum(took):.1f} | {1000 * median(took):.0f} |'
         )
 
 
@@ -117,19 +121,23 @@ def size_table(rows, make, check, name):
     made = [row for row in rows if row['program'] == make and row['bytes'] is not None]
     if not made:
         return
-    yield f'| class | {name} | median, bytes | largest, bytes | longest to make, ms | longest to check, ms |\n|---|---|---|---|---|---|'
+    yield (
+        f'| class | {name} | median, bytes | largest, bytes | longest to make, ms | longest to'
+        ' check, ms |\n|---|---|---|---|---|---|'
+    )
     checked = {row['picture']: row['seconds'] for row in rows if row['program'] == check}
     for name, held in [*sorted(by('class', made).items()), ('all', made)]:
         sizes = [row['bytes'] for row in held]
         checks = [checked[row['picture']] for row in held]
         yield (
-            f'| {name} | {len(held)} | {median(sizes):,.0f} | {max(sizes):,} | {1000 * max(row["seconds"] for row in held):.0f} | '
-            f'{1000 * max(checks):.0f} |'
+            f'| {name} | {len(held)} | {median(sizes):,.0f} | {max(sizes):,} |'
+            f' {1000 * max(row["seconds"] for row in held):.0f} | {1000 * max(checks):.0f} |'
         )
 
 
 def clausal_table(rows):
-    """How long clausal proofs are, without and with hints, and the longest times to make them, to add the hints and to check them."""
+    """How long clausal proofs are, without and with hints, and the longest times to make them, to
+    add the hints and to check them."""
     made, hints, checks = (
         [row for row in rows if row['program'] == name and row['answer'] != 'open']
         for name in (CLAUSAL, HINTS, VERIFIED)
@@ -156,7 +164,10 @@ def mark(shape, x, y, colour):
     }
     if shape in paths:
         return f'<path d="M{x:.1f} {y:.1f}{paths[shape]}" fill="{colour}"/>'
-    return f'<path d="M{x:.1f} {y:.1f}m-2.6-2.6l5.2 5.2m0-5.2l-5.2 5.2" stroke="{colour}" stroke-width="1.4"/>'
+    return (
+        f'<path d="M{x:.1f} {y:.1f}m-2.6-2.6l5.2 5.2m0-5.2l-5.2 5.2" stroke="{colour}"'
+        ' stroke-width="1.4"/>'
+    )
 
 
 class Axes:
@@ -189,9 +200,16 @@ class Axes:
         for count in range(0, self.pictures + 1, 10 if self.pictures > 20 else 2):
             x = self.across(count)
             yield f'<path d="M{x:.1f} {TOP}V{HEIGHT - BOTTOM}" stroke="#ececec"/>'
-            yield f'<text x="{x:.1f}" y="{HEIGHT - BOTTOM + 18}" text-anchor="middle">{count}</text>'
-        yield f'<path d="M{LEFT} {TOP}V{HEIGHT - BOTTOM}H{WIDTH - RIGHT}" fill="none" stroke="#222"/>'
-        yield f'<text x="{(LEFT + WIDTH - RIGHT) / 2}" y="{HEIGHT - 18}" text-anchor="middle">pictures decided, fastest first</text>'
+            yield (
+                f'<text x="{x:.1f}" y="{HEIGHT - BOTTOM + 18}" text-anchor="middle">{count}</text>'
+            )
+        yield (
+            f'<path d="M{LEFT} {TOP}V{HEIGHT - BOTTOM}H{WIDTH - RIGHT}" fill="none" stroke="#222"/>'
+        )
+        yield (
+            f'<text x="{(LEFT + WIDTH - RIGHT) / 2}" y="{HEIGHT - 18}"'
+            ' text-anchor="middle">pictures decided, fastest first</text>'
+        )
         middle = (TOP + HEIGHT - BOTTOM) / 2
         yield (
             f'<text x="20" y="{middle}" text-anchor="middle" transform="rotate(-90 20 {middle})">'
@@ -211,21 +229,30 @@ def plot(rows):
         len(by('picture', rows)), min(everything, default=0.001), max(everything, default=1)
     )
     yield (
-        f'<svg xmlns="http://www.w3.org/2000/svg" viewBox="0 0 {WIDTH} {HEIGHT}" width="{WIDTH}" height="{HEIGHT}" '
-        'font-family="sans-serif" font-size="13" fill="#222" role="img">'
+        f'<svg xmlns="http://www.w3.org/2000/svg" viewBox="0 0 {WIDTH} {HEIGHT}" width="{WIDTH}"'
+        f' height="{HEIGHT}" font-family="sans-serif" font-size="13" fill="#222" role="img">'
     )
     yield '<title>Pictures decided by each program, by processor time for a picture</title>'
     yield f'<rect width="{WIDTH}" height="{HEIGHT}" fill="#fff"/>'
-    yield f'<text x="{LEFT}" y="24" font-size="15">Time to a verdict: {axes.pictures} pictures, lower and further right is better</text>'
+    yield (
+        f'<text x="{LEFT}" y="24" font-size="15">Time to a verdict: {axes.pictures} pictures, lower'
+        ' and further right is better</text>'
+    )
     yield from axes.drawn()
     for at, (name, took) in enumerate(times.items()):
         colour, dash, shape = STYLES[at % len(STYLES)]
         points = [(axes.across(count), axes.down(seconds)) for count, seconds in enumerate(took, 1)]
         line = ' '.join(f'{x:.1f},{y:.1f}' for x, y in points)
-        yield f'<polyline points="{line}" fill="none" stroke="{colour}" stroke-width="1.6" stroke-dasharray="{dash or "none"}"/>'
+        yield (
+            f'<polyline points="{line}" fill="none" stroke="{colour}" stroke-width="1.6"'
+            f' stroke-dasharray="{dash or "none"}"/>'
+        )
         yield from (mark(shape, x, y, colour) for x, y in points)
         y = TOP + 22 + 19 * at
-        yield f'<path d="M{LEFT + 14} {y}h34" stroke="{colour}" stroke-width="1.6" stroke-dasharray="{dash or "none"}"/>'
+        yield (
+            f'<path d="M{LEFT + 14} {y}h34" stroke="{colour}" stroke-width="1.6"'
+            f' stroke-dasharray="{dash or "none"}"/>'
+        )
         yield mark(shape, LEFT + 31, y, colour)
         yield f'<text x="{LEFT + 56}" y="{y + 4}">{name} ({len(took)} decided)</text>'
     yield '</svg>'
@@ -237,7 +264,8 @@ def drawn(rows):
 
 
 def tables(rows):
-    """The lines of each table; the third leaves out the pictures on which nonobench was improved."""
+    """The lines of each table; the third leaves out the pictures on which nonobench was
+    improved."""
     others = [row for row in rows if not row['tuned']]
     made = [
         answer_table(rows),

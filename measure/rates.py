@@ -1,11 +1,13 @@
 #!/usr/bin/env python3
-"""Measures how many checks, verdicts, and verdicts with certificates C, Python and JavaScript make per second of processor time.
+"""Measures how many checks, verdicts, and verdicts with certificates C, Python and JavaScript make
+per second of processor time.
 
-The pictures are noise of 20 by 20 cells in three colours, the same each time, and all have one solution. A rate is the best of
-three rounds. A busy machine still lowers the rates, so the load is printed.
+The pictures are noise of 20 by 20 cells in three colours, the same each time, and all have one
+solution. A rate is the best of three rounds. A busy machine still lowers the rates, so the load is
+printed.
 
-Usage: measure/rates.py [PICTURES], by default 500. It uses what c/build left, and WASM, or else the module of web/out. It leaves
-out C without cc, and JavaScript without node or module, and says so.
+Usage: measure/rates.py [PICTURES], by default 500. It uses what c/build left, and WASM, or else the
+module of web/out. It leaves out C without cc, and JavaScript without node or module, and says so.
 """
 
 import os
@@ -36,7 +38,8 @@ def noise(rng):
 
 
 def pairs_of(count):
-    """So many pictures that have one solution, each with its certificate, and how many had several."""
+    """So many pictures that have one solution, each with its certificate, and how many had
+    several."""
     source, pairs, others = random.Random(20), [], 0
     while len(pairs) < count:
         picture = noise(source).encode()
@@ -115,8 +118,8 @@ def told(words):
 def main():
     pairs, others = pairs_of(int(sys.argv[1]) if len(sys.argv) > 1 else 500)
     print(
-        f"{len(pairs)} pictures of {SIDE} by {SIDE} in {COLOURS} colours ({others} more have several solutions); "
-        f"load {os.getloadavg()[0]:.1f}; a second of processor time:"
+        f"{len(pairs)} pictures of {SIDE} by {SIDE} in {COLOURS} colours ({others} more have"
+        f" several solutions); load {os.getloadavg()[0]:.1f}; a second of processor time:"
     )
     print(f"{'':12}{'checks':>10}{'verdicts':>10}{'with certificates':>19}")
     with tempfile.TemporaryDirectory() as name:

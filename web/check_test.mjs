@@ -93,7 +93,7 @@ test('givens as places and as a file, and what is refused', async () => {
   );
 });
 
-// Flaws of one-line and two-line pictures, worked out by hand from docs/FORMATS.md.
+// Flaws of one-line and two-line pictures, worked out by hand from docs/SESSION.md.
 test('flaws that show without a search', async () => {
   const checker = await load(bytes);
   assert.deepEqual(checker.flaws(PICTURE), []);
@@ -141,7 +141,7 @@ test('an option is a property of the object itself', async () => {
 test(
     'each growth refused in turn is told as out of memory, and the call can be made again',
     async () => {
-      const checker = await load(bytes), certificate = text('examples', 'diagonal.cert'),
+      const checker = await load(bytes), certificate = text('examples', 'diagonal.ppm.cert'),
             picture = text('examples', 'diagonal.ppm');
       const {answer, refused} = refusedInTurn(checker, () => checker.check(picture, certificate));
       assert.equal(answer.accepted, true);

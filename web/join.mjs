@@ -119,13 +119,15 @@ function pageTexts(version) {
   const icon = Buffer.from(read('page', 'icon.svg')).toString('base64');
   // What must not stand in a script within HTML; esbuild takes care of the end of the script.
   const code = `\n${script(entry).replaceAll('<!--', '<\\!--')}\n`;
+  const runs = `\n${bundled(join(root, 'web', 'runs.js'))}\n`;
   const style = `\n${bundled(join(root, 'page', 'styles', 'index.css'))}\n`;
   const parts = (served) => ({
     '<!-- head: policy, icon -->': `<meta http-equiv="Content-Security-Policy" content="${
         policyOf(
-            [code, drawing], style, served
+            [runs, code, drawing], style, served
         )}">\n<link rel="icon" href="data:image/svg+xml;base64,${icon}">${
         served ? '\n<link rel="manifest" href="manifest.webmanifest">' : ''}`,
+    '<!-- runs -->': `<script>${runs}</script>`,
     '<!-- style -->': `<style>${style}</style>`,
     '<!-- built -->': [
       ...EXAMPLES.map(

@@ -46,12 +46,12 @@ export interface Checked {
   givens: Place[];
 }
 
-/** What the search for a certificate with lemmas found. `proof` is the old name of `certificate`, and deprecated. */
+/** What the search for a certificate with lemmas found. */
 export type Proved =
   /** The certificate, which has no givens. */
-  | { ruling: 'unique'; certificate: string; proof: string }
+  | { ruling: 'unique'; certificate: string }
   /** Another picture has the clues; or neither such a picture nor a certificate was found within the bounds of the search. */
-  | { ruling: 'ambiguous' | 'undecided'; certificate: null; proof: null };
+  | { ruling: 'ambiguous' | 'undecided'; certificate: null };
 
 export interface AssessOptions {
   /** The colour of the background in a P3 picture, 'r,g,b', which then counts as named; by default white. */
@@ -66,7 +66,7 @@ export interface AssessOptions {
   format?: 'ppm' | 'non';
 }
 
-/** How hard a puzzle with one solution is (docs/FORMATS.md). Splits and depth are null if the word is 'unknown'. */
+/** How hard a puzzle with one solution is (docs/SESSION.md). Splits and depth are null if the word is 'unknown'. */
 export interface Grade {
   word: 'easy' | 'medium' | 'hard' | 'very-hard' | 'expert' | 'unknown';
   rounds: number;
@@ -121,8 +121,6 @@ export interface Engine {
   open(file: Input, options?: OpenOptions): Bench;
   /** Checks a certificate, in any of its forms. */
   check(picture: Input, certificate: Input, options?: CheckOptions): Checked;
-  /** @deprecated The old name of `check`. */
-  verify(picture: Input, certificate: Input, options?: CheckOptions): Checked;
   /** Assesses a puzzle: a P3 picture, or a .non text with a goal. Throws a Fault if it, the givens or the certificate is refused. */
   assess(puzzle: Input, options?: AssessOptions): Assessment;
   /** Makes a certificate with lemmas. It may take minutes. */

@@ -275,11 +275,6 @@ class Engine {
     return checkedOf(status, this.#text(), cert);
   }
 
-  /** @deprecated The old name of `check`. */
-  verify(...words) {
-    return this.check(...words);
-  }
-
   /**
    * Assesses a puzzle, a picture or a .non text with a goal: what readAssessment gives of the
    * engine's text. A background that is passed counts as named. `givens` are published in place of
@@ -335,11 +330,7 @@ class Engine {
     );
     if (status !== DONE) this.#refuse(status);
     const text = this.#text(), certificate = text.startsWith('nono') ? text : null;
-    return {
-      ruling: certificate ? 'unique' : text.trimEnd(),
-      certificate,
-      proof: certificate
-    };  // `proof` is its old name
+    return {ruling: certificate ? 'unique' : text.trimEnd(), certificate};
   }
 
   /**

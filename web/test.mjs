@@ -1,5 +1,5 @@
 // Tests of the module by node's own runner: WASM=path node --test web/test.mjs. The texts that are
-// expected stand in tests/ and examples/, or are worked out by hand from docs/FORMATS.md.
+// expected stand in tests/ and examples/, or are worked out by hand from docs/SESSION.md.
 import assert from 'node:assert/strict';
 import {spawn, spawnSync} from 'node:child_process';
 import {existsSync, mkdirSync, mkdtempSync, readFileSync, readdirSync, rmSync, truncateSync, writeFileSync} from 'node:fs';
@@ -502,7 +502,7 @@ test('products and shifts of 128 bits are those of whole numbers', async () => {
 });
 
 // What tests/cases/fit.txt, which tests/page/fit_cases.mjs asks the module, does not say of
-// puzzles, worked out from docs/FORMATS.md: the lines of the text, with `/` between them.
+// puzzles, worked out from docs/SESSION.md: the lines of the text, with `/` between them.
 const ASSESSED = [
   // Two pictures have the clues; a given decides it, and is needed.
   [PUZZLE, {}, 'ambiguous/.a/a./size 2 2/colours 2/givens 0/open 4/unfit'],
@@ -589,7 +589,7 @@ test(
           refused(DIAGONAL, {certificate: ''}), ['open', 'certificate NotCert at line 1']
       );
       assert.deepEqual(
-          refused(DIAGONAL, {certificate: text('examples', 'given.cert')}),
+          refused(DIAGONAL, {certificate: text('examples', 'given.ppm.cert')}),
           ['open', 'certificate UnpublishedGiven at line 2']
       );
       for (const allowance of [-1, 100000, 1.5, NaN, '5'])
@@ -736,7 +736,7 @@ test('a long answer is taken whole', async () => {
 
 test('a certificate is accepted, and what is wrong is said', async () => {
   const engine = await fresh();
-  const picture = text('examples', 'given.ppm'), certificate = text('examples', 'given.cert');
+  const picture = text('examples', 'given.ppm'), certificate = text('examples', 'given.ppm.cert');
   const givens = [[1, 1]];
   assert.deepEqual(
       engine.check(picture, certificate, {givens}),
@@ -769,9 +769,6 @@ test('a certificate is accepted, and what is wrong is said', async () => {
         {accepted: false, status: 1, text: `givens ${name}`, givens: []}
     );
   }
-  assert.deepEqual(
-      engine.verify(picture, certificate, {givens}), engine.check(picture, certificate, {givens})
-  );  // its old name
   for (const long of[' '.repeat(16777217), Array(14401).fill([1, 1])])
     assert.deepEqual(
         faultOf(() => engine.check(picture, certificate, {givens: long})),
@@ -812,15 +809,11 @@ test(
     'a certificate with lemmas that is made is accepted, with a byte changed it is refused or proves the same, and none proves two solutions',
     async () => {
       const engine = await fresh(), picture = pictureOf('a./.b');
-      assert.deepEqual(
-          engine.prove(DIAGONAL), {ruling: 'ambiguous', certificate: null, proof: null}
-      );
+      assert.deepEqual(engine.prove(DIAGONAL), {ruling: 'ambiguous', certificate: null});
       assert.deepEqual(faultOf(() => engine.prove('P4\n')), ['open', 'ppm NotP3 at byte 0']);
-      const {ruling, certificate, proof} =
+      const {ruling, certificate} =
           engine.prove(new TextEncoder().encode(picture), {background: null});
-      assert.deepEqual(
-          [ruling, certificate.slice(0, 12), proof], ['unique', 'nonolemma 2\n', certificate]
-      );
+      assert.deepEqual([ruling, certificate.slice(0, 12)], ['unique', 'nonolemma 2\n']);
       const accepted = {accepted: true, status: 0, text: 'certificate accepted\n', givens: []};
       assert.deepEqual(engine.check(picture, certificate), accepted);
       let refused = 0;
@@ -1032,7 +1025,7 @@ test(
       large.forEach((at) => calls.free(at));
       assert.deepEqual(
           engine.check(
-                    text('examples', 'diagonal.ppm'), text('examples', 'diagonal.cert')
+                    text('examples', 'diagonal.ppm'), text('examples', 'diagonal.ppm.cert')
           ).accepted,
           true
       );
@@ -1077,8 +1070,8 @@ test(
     'each growth refused in turn while a certificate is checked or made is a fault of memory',
     async () => {
       const {engine, calls} = await watched();
-      const picture = text('examples', 'given.ppm'), certificate = text('examples', 'given.cert'),
-            givens = [[1, 1]];
+      const picture = text('examples', 'given.ppm'),
+            certificate = text('examples', 'given.ppm.cert'), givens = [[1, 1]];
       const lemmas = `nonolemma 1${certificate.slice(10)}`, unique = pictureOf('a./.b'),
             made = engine.prove(unique);
       const assessed = engine.assess(picture, {givens});
@@ -1090,7 +1083,7 @@ test(
         [() => engine.assess(picture, {givens}), assessed],
         [() => engine.assess(picture, {givens, certificate}), assessed],
         [() => engine.prove(unique), made],
-        [() => engine.prove(DIAGONAL), {ruling: 'ambiguous', certificate: null, proof: null}],
+        [() => engine.prove(DIAGONAL), {ruling: 'ambiguous', certificate: null}],
       ];
       for (const [call, wanted] of asked) {
         const turns = () => {
@@ -1158,7 +1151,7 @@ test('the sessions of the repository come out as they stand there', async () => 
       const picture = existsSync(`${stem}.ppm`) ? `${stem}.ppm` : `${stem}.non`;
       const options = {
         format: picture.slice(-3),
-        background: word('.background'),
+        background: word('.ppm.background'),
         history: word('.history') && Number(word('.history'))
       };
       const bench = engine.open(readFileSync(picture), options);
@@ -1206,31 +1199,33 @@ test(
               cross = file('cross.ppm', 'P3\n2 2\n1\n0 0 0 1 1 1\n1 1 1 0 0 0\n');
         const all =
             file('cross.cert', 'nonocert 2\ngiven 1 1\ngiven 1 2\ngiven 2 1\ngiven 2 2\ndone\n');
-        assert.deepEqual(said('diagonal.ppm', 'diagonal.cert'), [DIAGONAL_SAID, 0]);
+        assert.deepEqual(said('diagonal.ppm', 'diagonal.ppm.cert'), [DIAGONAL_SAID, 0]);
         const given = 'unique\nsize 2 2\ncolours 2\ngivens 1\nopen 0\ngrade easy 1 4 2 0 0\nfit\n';
-        assert.deepEqual(said('given.ppm', 'given.cert', one), [given, 0]);
+        assert.deepEqual(said('given.ppm', 'given.ppm.cert', one), [given, 0]);
         const lemmas = file('lemmas.cert', 'nonolemma 2\ngiven 1 1\nline r1 c1 r2\ndone\n');
         assert.deepEqual(said('given.ppm', lemmas, one), [given, 0]);
         const two = file('two', 'given 2 2\ngiven 1 1\n');
-        assert.deepEqual(said('given.ppm', 'given.cert', two), ['refused: flaw spare 2 2\n', 1]);
         assert.deepEqual(
-            said('given.ppm', 'given.cert', two, '255,0,0'),
+            said('given.ppm', 'given.ppm.cert', two), ['refused: flaw spare 2 2\n', 1]
+        );
+        assert.deepEqual(
+            said('given.ppm', 'given.ppm.cert', two, '255,0,0'),
             ['refused: flaw background; flaw spare 2 2\n', 1]
         );
         for (const kind of ['blank', 'alike', 'background'])
           assert.deepEqual(
-              said('--allow-flaw', kind, 'given.ppm', 'given.cert', two),
+              said('--allow-flaw', kind, 'given.ppm', 'given.ppm.cert', two),
               ['refused: flaw spare 2 2\n', 1]
           );
         const spare =
             'unique\nsize 2 2\ncolours 2\ngivens 2\nopen 0\ngrade easy 1 2 1 0 0\nflaw spare 2 2\nunfit\n';
         for (const words of [['given'], ['any'], ['blank', '--allow-flaw', 'given']]) {
           assert.deepEqual(
-              said('--allow-flaw', ...words, 'given.ppm', 'given.cert', two), [spare, 0]
+              said('--allow-flaw', ...words, 'given.ppm', 'given.ppm.cert', two), [spare, 0]
           );
         }
         for (const words of [['--allow-flaw', 'spare'], ['--allow-flaw'], ['--other']]) {
-          assert.deepEqual(said('given.ppm', 'given.cert', two, ...words), [
+          assert.deepEqual(said('given.ppm', 'given.ppm.cert', two, ...words), [
             'check_upload: usage: check_upload.mjs [--allow-flaw KIND ..] PICTURE CERTIFICATE [GIVENS [R,G,B]]\n',
             2
           ]);
@@ -1239,11 +1234,11 @@ test(
             said('given.ppm', lemmas), ['refused: certificate UnpublishedGiven at line 2\n', 1]
         );
         assert.deepEqual(
-            said('given.ppm', 'given.cert'),
+            said('given.ppm', 'given.ppm.cert'),
             ['refused: certificate UnpublishedGiven at line 2\n', 1]
         );
         assert.deepEqual(
-            said('given.ppm', 'diagonal.cert'), ['refused: certificate NotDead at line 5\n', 1]
+            said('given.ppm', 'diagonal.ppm.cert'), ['refused: certificate NotDead at line 5\n', 1]
         );
         assert.deepEqual(
             said(cross, all), ['refused: certificate UnpublishedGiven at line 2\n', 1]
@@ -1252,23 +1247,23 @@ test(
             said(cross, all, one), ['refused: certificate UnpublishedGiven at line 3\n', 1]
         );
         assert.match(
-            said('none.ppm', 'diagonal.cert')[0],
+            said('none.ppm', 'diagonal.ppm.cert')[0],
             /^check_upload: ENOENT: no such file or directory, open 'none.ppm'\n$/
         );
-        assert.equal(said('none.ppm', 'diagonal.cert')[1], 3);
+        assert.equal(said('none.ppm', 'diagonal.ppm.cert')[1], 3);
         assert.deepEqual(
-            said('given.ppm', 'given.cert', cross), ['refused: givens BadLine at line 1\n', 1]
+            said('given.ppm', 'given.ppm.cert', cross), ['refused: givens BadLine at line 1\n', 1]
         );
         assert.equal(said('given.ppm')[1], 2);
         for (const ground of ['', '1,2', '1,2,3,4', '-1,0,0', '1e1,0,0', '65536,0,0', '1, 2,3']) {
           assert.deepEqual(
-              said('given.ppm', 'given.cert', one, ground),
+              said('given.ppm', 'given.ppm.cert', one, ground),
               ['check_upload: the background must be R,G,B\n', 2]
           );
         }
-        assert.deepEqual(said('given.ppm', 'given.cert', one, '255,00255,255'), [given, 0]);
+        assert.deepEqual(said('given.ppm', 'given.ppm.cert', one, '255,00255,255'), [given, 0]);
         const [text, status] = uploadedBy(
-            join(folder, 'none.wasm'), join(root, 'examples'), 'diagonal.ppm', 'diagonal.cert'
+            join(folder, 'none.wasm'), join(root, 'examples'), 'diagonal.ppm', 'diagonal.ppm.cert'
         );
         assert.match(
             text,
@@ -1276,7 +1271,7 @@ test(
         );
         assert.equal(status, 3);
         const damaged = uploadedBy(
-            file('damaged.wasm', 'x'), join(root, 'examples'), 'diagonal.ppm', 'diagonal.cert'
+            file('damaged.wasm', 'x'), join(root, 'examples'), 'diagonal.ppm', 'diagonal.ppm.cert'
         );
         assert.match(damaged[0], /^check_upload: the module cannot be loaded: .*\n$/);
         assert.equal(damaged[1], 3);
@@ -1289,7 +1284,7 @@ test(
 test('the example tells by its status that its answer could not be written', () => {
   const wasm = resolve(process.env.WASM ?? join(root, 'web', 'out', 'nonobench.wasm')),
         script = join(root, 'examples', 'check_upload.mjs');
-  const asked = 'node "$1" "$2.ppm" "$2.cert"';
+  const asked = 'node "$1" "$2.ppm" "$2.ppm.cert"';
   for (const [picture, line] of [
            ['diagonal', `${asked} > /dev/full`],
            ['given', `${asked} > /dev/full`],
@@ -1331,7 +1326,7 @@ test('the example loads nothing from the current folder', () => {
         join(folder, 'package.json'), '{"imports": {"#x": "./index.js"}, "main": "index.js"}'
     );
     writeFileSync(join(folder, 'nonobench.wasm'), 'no module');
-    const pair = ['diagonal.ppm', 'diagonal.cert'].map((name) => join(root, 'examples', name));
+    const pair = ['diagonal.ppm', 'diagonal.ppm.cert'].map((name) => join(root, 'examples', name));
     assert.deepEqual(uploaded(folder, ...pair), [DIAGONAL_SAID, 0]);
     assert.ok(!existsSync(mark));
   } finally {
@@ -1379,12 +1374,12 @@ function ownFolder(t) {
 test('the example reads regular files alone, and none that is too long', {skip: long}, (t) => {
   const folder = ownFolder(t),
         [picture, certificate] =
-            ['diagonal.ppm', 'diagonal.cert'].map((name) => join(root, 'examples', name));
+            ['diagonal.ppm', 'diagonal.ppm.cert'].map((name) => join(root, 'examples', name));
   const pipe = join(folder, 'pipe'), long = join(folder, 'long');
   assert.equal(spawnSync('mkfifo', [pipe]).status, 0);
   for (const place of [0, 1, 2]) {
     for (const name of [pipe, '/dev/zero', folder]) {
-      const words = [picture, certificate, join(root, 'examples', 'given.givens')];
+      const words = [picture, certificate, join(root, 'examples', 'given.ppm.givens')];
       words[place] = name;
       assert.deepEqual(
           uploaded(folder, ...words), [`check_upload: not a regular file: ${name}\n`, 3]
@@ -1442,7 +1437,7 @@ test(
     async (t) => {
       const folder = ownFolder(t),
             [picture, certificate] =
-                ['diagonal.ppm', 'diagonal.cert'].map((name) => join(root, 'examples', name));
+                ['diagonal.ppm', 'diagonal.ppm.cert'].map((name) => join(root, 'examples', name));
       // A package whose check takes its time: as the script's name says.
       mkdirSync(join(folder, 'node_modules', 'nonobench'), {recursive: true});
       writeFileSync(

@@ -285,7 +285,7 @@ test('the package is imported by its name, and brings its module', async (t) => 
   `);
   const {stdout, stderr} = spawnSync(
       process.execPath,
-      ['ask.mjs', example('diagonal.ppm'), example('diagonal.cert')],
+      ['ask.mjs', example('diagonal.ppm'), example('diagonal.ppm.cert')],
       {cwd: place, encoding: 'utf8'}
   );
   const version = done(['--version']).wrote.trim().split(' ')[1];
@@ -298,7 +298,7 @@ test('the package is imported by its name, and brings its module', async (t) => 
 
 test('a certificate that an editor changed is told so, on a line of its own', (t) => {
   const file = join(ownFolder(t), 'crlf.cert');
-  writeFileSync(file, readFileSync(example('diagonal.cert'), 'utf8').replaceAll('\n', '\r\n'));
+  writeFileSync(file, readFileSync(example('diagonal.ppm.cert'), 'utf8').replaceAll('\n', '\r\n'));
   for (const word of ['check', 'verify']) {
     const {status, stdout, stderr} = spawnSync(
         process.execPath, [program, word, example('diagonal.ppm'), file], {encoding: 'utf8'}
@@ -336,7 +336,7 @@ test('a module that cannot be loaded refuses nothing', (t) => {
            of [() => writeFileSync(module, bytes.subarray(0, 1000)), () => rmSync(module)]) {
     damage();
     for (const args
-             of [['check', example('diagonal.ppm'), example('diagonal.cert')],
+             of [['check', example('diagonal.ppm'), example('diagonal.ppm.cert')],
                  ['assess', example('diagonal.ppm')]]) {
       const {status, stdout, stderr} =
           spawnSync(process.execPath, [join(place, 'program.mjs'), ...args], {encoding: 'utf8'});

@@ -1,6 +1,6 @@
 // The arguments of the program: what they ask for, or why they are refused. Node's parseArgs cuts
 // them, and they are taken from the left, as the native program takes them: of two mistakes the
-// first is told, and help is given unless a mistake stands before it.
+// first is told. Help and the version go alone.
 import {parseArgs} from 'node:util';
 import {Ending, ended} from './ending.mjs';
 
@@ -156,6 +156,17 @@ function topOf(args) {
   return first.name === 'help' ? {task: 'help', page: 'nonobench'} : {task: 'version'};
 }
 
+// What some arguments ask for.
+function readTask(args) {
+  const [first, ...others] = args;
+  if (Object.hasOwn(COMMANDS, first)) return commandOf(first, others);
+  return first === 'help' ? helpOf(others) : topOf(args);
+}
+
+// Whether arguments that ask for help or the version ask for nothing else.
+const asksAlone = (args) => args.length === 1 ||
+    (args.length === 2 && (args[0] === 'help' || args[1] === '-h' || args[1] === '--help'));
+
 /**
  * What the arguments ask for: {task}, which is 'clues', 'work', 'check', 'verify', 'assess',
  * 'prove', 'help' or 'version', with {files, givens, certificate, complete, options} or {page}.
@@ -165,7 +176,8 @@ function topOf(args) {
 export function readWords(args) {
   if (args.some((word) => word.includes('\ufffd'))) throw ended(2, 'a word is not UTF-8');
   if (args.length === 0) return {task: 'clues', options: {format: 'ppm'}};
-  const [first, ...others] = args;
-  if (Object.hasOwn(COMMANDS, first)) return commandOf(first, others);
-  return first === 'help' ? helpOf(others) : topOf(args);
+  const asked = readTask(args);
+  if (['help', 'version'].includes(asked.task) && !asksAlone(args))
+    throw ended(2, 'help and version go alone; a name that begins with - needs ./ or --');
+  return asked;
 }
