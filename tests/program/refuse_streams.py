@@ -183,7 +183,11 @@ def writes(streams):
     runs = (
         (['work', 'three.ppm'], lines, answers),
         ([], streams.file('three.ppm', THREE), CLUES),
-        (['check', diagonal + '.ppm', diagonal + '.ppm.cert'], os.devnull, b'certificate accepted\n'),
+        (
+            ['check', diagonal + '.ppm', diagonal + '.ppm.cert'],
+            os.devnull,
+            b'certificate accepted\n',
+        ),
         (['--version'], os.devnull, version),
     )
     for words, source, wanted in runs:
