@@ -74,7 +74,7 @@ int main(int count, char **names) {
       certificate.bytes,
       certificate.size,
       &options,
-      -1,
+      NULL,
       &found,
       &text
   );

@@ -128,9 +128,9 @@ uint32_t nonobench_check_published(
 
 /* Assesses a puzzle, a P3 text or (`non`) a .non text with a goal: whether it is fit to be
  * published. The text is what `nonobench assess` prints for it, and ends with `fit` or `unfit`; or
- * why it is refused. A background counts as named where it is passed. The texts of a file of givens
- * and of a certificate count where `has_givens` and `has_certificate` say that they are passed, and
- * an allowance where it is at most 99,999. */
+ * why it is refused. The texts of a file of givens and of a certificate count where `has_givens` and
+ * `has_certificate` say that they are passed. The allowance is a word: 0 to 99999, `off`, or none,
+ * which stands for 10000. */
 uint32_t nonobench_assess(
     nonobench_desk **desk,
     const uint8_t *puzzle,
@@ -144,7 +144,8 @@ uint32_t nonobench_assess(
     bool has_certificate,
     const uint8_t *certificate,
     size_t certificate_size,
-    uint32_t allowance
+    const uint8_t *allowance,
+    size_t allowance_size
 );
 
 /* Makes a certificate with lemmas of a P3 picture, without givens: the text. If another picture
@@ -306,18 +307,15 @@ typedef struct nonobench_assessment {
   nonobench_grade grade;
   uint64_t rounds, evaluations, wait, splits, depth; /* 0 where the grade has none */
   bool is_blank, lacks_background;                   /* flaws */
-  nonobench_place given,
-      spare; /* flaws: a given that is not needed, or that the certificate does not name */
-  nonobench_place
-      unknown; /* no flaw: a given of which the allowance leaves open whether it is needed */
+  nonobench_place given;                             /* a flaw: a given that is not needed */
   uint32_t alike_count; /* a flaw, if above 0: pairs of colours, by their letters */
   char alike[NONOBENCH_MOST_ALIKE][2];
 } nonobench_assessment;
 
-/* Assesses a puzzle, a P3 text or (`non`) a .non text with a goal. A background counts as named
- * where the options have one. With a certificate (not null) the checker says what is unique, and
- * nothing is searched; `any_given` then publishes the givens that it names (of a .non text, what is
- * wrong with these is told as `givens`). Otherwise `allowance` is as for nonobench_verdict. The
+/* Assesses a puzzle, a P3 text or (`non`) a .non text with a goal. A certificate (not null) takes
+ * the place of the search for another solution; `any_given` then publishes the givens that it names
+ * (of a .non text, what is wrong with these is told as `givens`). `allowance` is how many splits
+ * the search of a part may make: 0 to 99999 as a text, `off` for no bound, or null for 10000. The
  * text is what the program prints for the puzzle, or why it is refused: then all of `found` is 0,
  * but its size. `options` and `text` may be null. */
 uint32_t nonobench_assess_puzzle(
@@ -327,7 +325,7 @@ uint32_t nonobench_assess_puzzle(
     const void *certificate,
     size_t certificate_size,
     const nonobench_options *options,
-    int32_t allowance,
+    const char *allowance,
     nonobench_assessment *found,
     nonobench_text *text
 );

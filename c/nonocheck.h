@@ -80,9 +80,9 @@ uint32_t nonocheck_check_published(
 /* How much room all pairs of colours need. */
 #define NONOCHECK_PAIRS ((size_t)240)
 
-/* Finds the flaws of a P3 picture that show without a search: whether it is blank, whether a
- * background that is passed is one that no cell has, and the pairs of colours that look alike,
- * among those that cells have and the background. A pair is two bytes, the numbers of its colours,
+/* Finds the flaws of a P3 picture that show without a search: whether it is blank, whether no cell
+ * has the background, and the pairs of colours that look alike, among those that cells have and the
+ * background. A pair is two bytes, the numbers of its colours,
  * 0 for the background; zeros come behind the last. Where the picture is REFUSED there are none,
  * and the text of nonocheck_check says why. */
 uint32_t nonocheck_flaws(

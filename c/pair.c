@@ -249,6 +249,15 @@ static uint32_t look_allowance(int32_t allowance, nonobench_text *text) {
   return NONOBENCH_OPTIONS;
 }
 
+/* Whether the allowance of an assessment is lawful: one to five digits, `off`, or none. */
+static uint32_t look_bound(const char *allowance, nonobench_text *text) {
+  size_t digits = allowance ? strspn(allowance, "0123456789") : 0;
+  if (!allowance || strcmp(allowance, "off") == 0) return NONOBENCH_DONE;
+  if (digits > 0 && digits <= 5 && allowance[digits] == 0) return NONOBENCH_DONE;
+  put(text, "allowance must be 0 to 99999 or off");
+  return NONOBENCH_OPTIONS;
+}
+
 /* The verdict of a bench under an allowance: `ruling` and `text` become what is found. */
 static uint32_t judge(
     nonobench_desk **desk,
@@ -439,7 +448,6 @@ static void read_flaw(const char *line, nonobench_assessment *found) {
   if (strcmp(line, "flaw blank") == 0) found->is_blank = true;
   if (strcmp(line, "flaw background") == 0) found->lacks_background = true;
   read_place(line, "flaw given", &found->given);
-  read_place(line, "flaw spare", &found->spare);
   if (strncmp(line, ALIKE, strlen(ALIKE)) == 0 && strlen(line) == strlen(ALIKE) + 3) {
     pair[0] = line[strlen(ALIKE)];
     pair[1] = line[strlen(ALIKE) + 2];
@@ -460,7 +468,6 @@ static void read_assessed(const char *line, nonobench_assessment *found) {
   read_count(line, "colours", &found->colours);
   read_count(line, "givens", &found->givens);
   read_count(line, "open", &found->open);
-  read_place(line, "unknown given", &found->unknown);
   if (strncmp(line, "grade ", 6) == 0) read_grade(line, found);
   if (strncmp(line, "flaw ", 5) == 0) read_flaw(line, found);
   found->is_fit = strcmp(line, "fit") == 0;
@@ -524,7 +531,7 @@ uint32_t nonobench_assess_puzzle(
     const void *certificate,
     size_t certificate_size,
     const nonobench_options *options,
-    int32_t allowance,
+    const char *allowance,
     nonobench_assessment *found,
     nonobench_text *text
 ) {
@@ -535,7 +542,7 @@ uint32_t nonobench_assess_puzzle(
   char *givens = NULL;
   nonobench_place *named = NULL;
   nonobench_desk *desk;
-  uint32_t status = look_allowance(allowance, text);
+  uint32_t status = look_bound(allowance, text);
   clear(found);
   if (status == NONOBENCH_DONE) status = look(puzzle, puzzle_size, text);
   if (status == NONOBENCH_DONE) status = look(certificate, certificate_size, text);
@@ -562,7 +569,8 @@ uint32_t nonobench_assess_puzzle(
         certificate != NULL,
         files[1],
         sizes[1],
-        allowance < 0 ? UINT32_MAX : (uint32_t)allowance
+        bytes_of(allowance),
+        length_of(allowance)
     );
     tell(&desk, status, text);
     if (status == NONOBENCH_DONE) status = keep_assessed(&desk, found, text);

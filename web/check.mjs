@@ -66,8 +66,7 @@ class Checker {
 
   /**
    * The flaws of a picture that show without a search, as `nonobench assess` names them: 'blank',
-   * 'background' where one is passed that no cell has, and 'alike A B' for colours by their
-   * letters. Throws a Fault if the picture is refused.
+   * 'background' where no cell has it, and 'alike A B' for colours by their letters. Throws a Fault if the picture is refused.
    */
   flaws(picture, options = {}) {
     const samples = samplesOf(options), file = inputOf(picture), found = [];

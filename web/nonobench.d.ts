@@ -54,14 +54,14 @@ export type Proved =
   | { ruling: 'ambiguous' | 'undecided'; certificate: null };
 
 export interface AssessOptions {
-  /** The colour of the background in a P3 picture, 'r,g,b', which then counts as named; by default white. */
+  /** The colour of the background in a P3 picture, 'r,g,b'; by default white. */
   background?: string | null;
   /** The published cells, or a file with a line `given R C` for each; by default none. */
   givens?: readonly Place[] | Input | null;
-  /** A certificate of the puzzle with these cells: nothing is searched. */
+  /** A certificate of the puzzle with these cells, which takes the place of the search for another solution. */
   certificate?: Input | null;
-  /** How many splits the search of a part may make, 0 to 99999; by default there is no such bound, and a call may take very long. */
-  allowance?: number | null;
+  /** How many splits the search of a part may make, 0 to 99999; by default 10000. With 'off' there is no such bound, and a call may take very long. */
+  allowance?: number | 'off' | null;
   /** The file's format; by default it is recognised by the file's contents. */
   format?: 'ppm' | 'non';
 }
@@ -78,10 +78,10 @@ export interface Grade {
 
 /**
  * Why a puzzle is not fit to be published, besides its verdict: no cell has another colour than the background; no cell has the
- * background that was named; a given without which there is still one solution, or with a certificate a published cell that it does
- * not name; two colours that a solver may confuse, by their letters.
+ * background; a given without which there is still one solution, and line logic leaves the same cells open; two colours that a solver
+ * may confuse, by their letters.
  */
-export type Flaw = 'blank' | 'background' | `given ${number} ${number}` | `spare ${number} ${number}` | `alike ${string} ${string}`;
+export type Flaw = 'blank' | 'background' | `given ${number} ${number}` | `alike ${string} ${string}`;
 
 /** What is said of a puzzle. */
 export interface Assessment {
@@ -98,8 +98,6 @@ export interface Assessment {
   /** If the puzzle is unique. */
   grade: Grade | null;
   flaws: Flaw[];
-  /** The first given of which the allowance leaves open whether it is needed, if none is known to be needless. It is no flaw. */
-  unknown: Place | null;
   /** It is unique and has no flaw. */
   fit: boolean;
   /** The text that the engine gave. */

@@ -19,9 +19,8 @@ const OPTIONS = 6;
 const MOST_BYTES = 16777216;
 const MOST_CELLS = 14400;
 
-// How many splits an allowance may name. What is above stands for none.
+// How many splits an allowance may name.
 const MOST_SPLITS = 99999;
-const NO_ALLOWANCE = 0xffffffff;
 
 // The room that a text is first taken in.
 const ROOM = 65536;
@@ -167,7 +166,7 @@ export function hintOf(text, certificate) {
 const ASSESSMENT = new RegExp([
   '^(?<verdict>unique|ambiguous|undecided)\\n(?<other>(?:[.a-o]+\\n)*)size (?<rows>N) (?<columns>N)\\ncolours (?<colours>N)\\n',
   'givens (?<givens>N)\\nopen (?<open>N)\\n(?:grade (?<word>[a-z-]+) (?<rounds>N) (?<evaluations>N) (?<wait>N)(?: (?<splits>N) (?<depth>N))?\\n)?',
-  '(?<said>(?:(?:flaw|unknown) [a-z]+(?: [.a-o0-9]+)*\\n)*)(?<end>fit|unfit)\\n$',
+  '(?<said>(?:flaw [a-z]+(?: [.a-o0-9]+)*\\n)*)(?<end>fit|unfit)\\n$',
 ].join('').replaceAll('N', '\\d+'));
 
 const numbersIn = (found, names) => Object.fromEntries(
@@ -181,8 +180,7 @@ const numbersIn = (found, names) => Object.fromEntries(
 export function readAssessment(text) {
   const found = ASSESSMENT.exec(text)?.groups;
   if (!found) throw new TypeError(`this is no assessment: ${text.slice(0, 60)}`);
-  const lines = found.said.split('\n'),
-        unknown = lines.find((line) => line.startsWith('unknown given '));
+  const lines = found.said.split('\n');
   return {
     verdict: found.verdict,
     other: found.verdict === 'ambiguous' ? found.other.split('\n').slice(0, -1) : null,
@@ -193,7 +191,6 @@ export function readAssessment(text) {
     } :
                         null,
     flaws: lines.filter((line) => line.startsWith('flaw ')).map((line) => line.slice(5)),
-    unknown: unknown ? unknown.split(' ').slice(2).map(Number) : null,
     fit: found.end === 'fit',
     text,
   };
@@ -277,17 +274,18 @@ class Engine {
 
   /**
    * Assesses a puzzle, a picture or a .non text with a goal: what readAssessment gives of the
-   * engine's text. A background that is passed counts as named. `givens` are published in place of
-   * the picture's own, as for `check`, and with a `certificate` nothing is searched. `allowance`
-   * bounds the splits of each part. Throws a Fault where one of the files is refused.
+   * engine's text. `givens` are published in place of the picture's own, as for `check`, and a
+   * `certificate` takes the place of the search for another solution. `allowance` bounds the splits
+   * of each part: by default 10000, 'off' for none. Throws a Fault where one of the files is
+   * refused.
    */
   assess(puzzle, options = {}) {
     const file = inputOf(puzzle), background = this.#background(options),
           non = isNonFor(file, options, background);
-    const allowance = own(options, 'allowance') ?? NO_ALLOWANCE;
-    if (allowance !== NO_ALLOWANCE &&
+    const allowance = own(options, 'allowance') ?? '';
+    if (allowance !== '' && allowance !== 'off' &&
         !(Number.isInteger(allowance) && allowance >= 0 && allowance <= MOST_SPLITS)) {
-      throw new Fault('open', `allowance must be 0 to ${MOST_SPLITS}`);
+      throw new Fault('open', `allowance must be 0 to ${MOST_SPLITS} or 'off'`);
     }
     const [givens, certificate] =
         ['givens', 'certificate'].map((name) => own(options, name) ?? null);
@@ -296,8 +294,8 @@ class Engine {
             (text) => text !== null && inputOf(text)
         );
     const status = this.#lend(
-        [file, background, ...texts.map((text) => text || NONE)],
-        ([picture, word, listed, cert]) => this.#calls.nonobench_assess(
+        [file, background, ...texts.map((text) => text || NONE), inputOf(`${allowance}`)],
+        ([picture, word, listed, cert, bound]) => this.#calls.nonobench_assess(
             this.#cell,
             picture.at,
             picture.size,
@@ -310,7 +308,8 @@ class Engine {
             texts[1] ? 1 : 0,
             cert.at,
             cert.size,
-            allowance
+            bound.at,
+            bound.size
         )
     );
     if (status !== DONE) this.#refuse(status);

@@ -511,12 +511,12 @@ const ASSESSED = [
     {givens: 'given 1 1', format: 'non'},
     'unique/size 2 2/colours 2/givens 1/open 0/grade easy 1 4 2 0 0/fit'
   ],
-  // Without a split nothing is found of the puzzle without that given.
+  // Without a split nothing is found of the puzzle without that given; that it is needed is known.
   [DIAGONAL, {allowance: 0}, 'undecided/size 2 2/colours 2/givens 0/open 4/unfit'],
   [
     DIAGONAL,
     {allowance: 0, givens: [[1, 1]]},
-    'unique/size 2 2/colours 2/givens 1/open 0/grade easy 1 4 2 0 0/unknown given 1 1/fit'
+    'unique/size 2 2/colours 2/givens 1/open 0/grade easy 1 4 2 0 0/fit'
   ],
 ];
 
@@ -533,14 +533,13 @@ test('puzzles are assessed as the cases say, and what is said is a value', async
     colours: 2,
     givens: 2,
     open: 0,
-    unknown: null,
     fit: false,
     grade: {word: 'easy', rounds: 1, evaluations: 2, wait: 1, splits: 0, depth: 0},
     flaws: ['given 1 1'],
   });
   assert.deepEqual(engine.assess(DIAGONAL).other, ['.a', 'a.']);
   assert.equal(engine.assess(DIAGONAL).grade, null);
-  assert.deepEqual(engine.assess(DIAGONAL, {allowance: 0, givens: [[1, 1]]}).unknown, [1, 1]);
+  assert.equal(engine.assess(DIAGONAL, {allowance: 'off'}).verdict, 'ambiguous');
   assert.deepEqual(engine.assess('P3 2 1 255 255 255 255 254 254 254\n').flaws, ['alike . a']);
   const [hard] = ['unique/size 3 4/colours 2/givens 0/open 8/grade unknown 2 10 4/fit/'].map(
       (lines) => readAssessment(lines.replaceAll('/', '\n'))
@@ -592,8 +591,10 @@ test(
           refused(DIAGONAL, {certificate: text('examples', 'given.ppm.cert')}),
           ['open', 'certificate UnpublishedGiven at line 2']
       );
-      for (const allowance of [-1, 100000, 1.5, NaN, '5'])
-        assert.deepEqual(refused(DIAGONAL, {allowance}), ['open', 'allowance must be 0 to 99999']);
+      for (const allowance of [-1, 100000, 1.5, NaN, '5', 'of'])
+        assert.deepEqual(
+            refused(DIAGONAL, {allowance}), ['open', 'allowance must be 0 to 99999 or \'off\'']
+        );
       assert.deepEqual(refused(new Uint8Array(16777217)), ['open', 'input too long']);
       assert.deepEqual(
           refused(DIAGONAL, {givens: new Uint8Array(16777217)}), ['open', 'input too long']

@@ -16,15 +16,14 @@ export function plainOf({rows, columns, maxval, colours, picture}) {
 
 /**
  * Asks an engine for what it says of a document, as web/nonobench.mjs gives it, in the letters of
- * the document. A background counts as named where it is not white, or the document says so.
+ * the document.
  */
 export async function assessed(engine, doc) {
   const {text, letters} = plainOf(doc);
-  const isNamed = doc.isNamed || doc.colours[0].some((sample) => sample !== doc.maxval);
   const givens = [...doc.givens].map(
       (index) => [Math.floor(index / doc.columns) + 1, (index % doc.columns) + 1]
   );
-  const options = {background: isNamed ? doc.colours[0].join(',') : null, givens, format: 'ppm'};
+  const options = {background: doc.colours[0].join(','), givens, format: 'ppm'};
   const found = await engine.call('assess', {puzzle: text, options});
   const own = (text) => Array.from(text, (letter) => letters[LETTERS.indexOf(letter)]);
   const flaws = found.flaws.map(

@@ -28,17 +28,15 @@ export function readGivens(text, {rows, columns}) {
 
 /**
  * The background that a text names: white, or R,G,B. It is a function, which gives the triple of
- * eight bits for an image whose samples go up to `maxval`; `isNamed` says whether the text is a
- * triple. An empty text names none.
+ * eight bits for an image whose samples go up to `maxval`. An empty text names none.
  */
 export function readGround(text) {
   const word = withoutSpace(text);
   const triple = /^[0-9]{1,5}(,[0-9]{1,5}){2}$/.test(word) ? word.split(',').map(Number) : null;
   if (!triple && word !== 'white') throw new FileFault(phrase('formats.noBackground'));
-  const ground = (_image, maxval) => {
+  return (_image, maxval) => {
     if (triple && Math.max(...triple) > maxval)
       throw new FileFault(phrase('formats.backgroundOver', {maxval}));
     return triple ? eightBits(triple, maxval) : [255, 255, 255];
   };
-  return Object.assign(ground, {isNamed: triple !== null});
 }

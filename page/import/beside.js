@@ -81,9 +81,8 @@ async function naming(file, work) {
 /**
  * The documents of a unit as `{ docs, left }`. What lies beside the file holds in place of what the
  * file itself tells. Of several puzzles in a file each tells it itself: then that is `left`, and
- * the puzzles are as docsOfBytes gives them. That of a picture beside which a triple lies says that
- * it `isNamed`. `imageDocs(file, bytes, ground)` gives the documents of an image, or null where the
- * file is none.
+ * the puzzles are as docsOfBytes gives them. `imageDocs(file, bytes, ground)` gives the documents of
+ * an image, or null where the file is none.
  */
 export async function docsOfUnit(
     {file, fault, givens, background}, imageDocs = async (..._image) => null, progress = null
@@ -96,8 +95,6 @@ export async function docsOfUnit(
   const docs =
       (await imageDocs(file, bytes, ground)) ?? (await docsOfBytes(bytes, ground, progress));
   if (docs.length > 1) return {docs, left: [givens, background].filter(Boolean)};
-  if (docs.length && read?.isNamed && !['xml', 'non'].includes(kindOfFile(bytes)))
-    docs[0] = {...docs[0], isNamed: true};
   if (docs.length && givens)
     docs[0] = {
       ...docs[0],

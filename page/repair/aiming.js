@@ -61,14 +61,14 @@ export class Aiming {
     return this.grade(cells, givens);
   }
 
-  /** One cell to be given: those that line logic settles last are tried first. */
+  /** One cell to be given, of those that line logic leaves open: another would not be needed. */
   async give() {
     const {board} = this;
-    const falls = new Set((await this.path()).reverse());
+    const falls = new Set(await this.path());
     const open = [...board.cells.keys()].filter(
         (index) => !falls.has(index) && !board.givens.includes(index)
     );
-    for (const index of [...open, ...falls]) {
+    for (const index of open) {
       if (!this.limit.share(FOR_GIVEN)) return;
       if ((await this.gradeOf(board.cells, [...board.givens, index])).word === this.word)
         return void this.found({given: [index]});

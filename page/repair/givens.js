@@ -35,6 +35,15 @@ function partsOf(board, other) {
   return parts;
 }
 
+/**
+ * The cells to be given that are needed: line logic does not settle them by the others. Without the
+ * rest it leaves the same cells open, and the solutions are the same.
+ */
+export const needed = (board, given) => given.reduce((kept, index) => {
+  const others = kept.filter((other) => other !== index);
+  return openWith(board, others).includes(index) ? kept : others;
+}, [...given]);
+
 const isMet = (set, given) => set.some((index) => given.has(index));
 
 // How often each cell is in a set that is not met yet.
@@ -103,10 +112,11 @@ export class Giving {
 
   async run() {
     const enough = await this.#greedy();
-    this.hooks.found({given: [...enough], isLeast: enough.size < 2});
+    this.hooks.found({given: needed(this.board, [...enough]), isLeast: enough.size < 2});
     await this.#leaveOut(enough);
     const {given, isKnown} = await this.fewest(enough.size);
-    if (isKnown) this.hooks.found({given: given ?? [...enough], isLeast: true});
+    if (isKnown)
+      this.hooks.found({given: needed(this.board, given ?? [...enough]), isLeast: true});
   }
 
   /**
@@ -147,7 +157,7 @@ export class Giving {
       if ((await this.#word(given)) !== 'unique')
         given.add(index);
       else
-        this.hooks.found({given: [...given], isLeast: given.size < 2});
+        this.hooks.found({given: needed(this.board, [...given]), isLeast: given.size < 2});
     }
   }
 }
@@ -180,7 +190,7 @@ function settlers(board, bound, check) {
     chosen.push(best.index);
     open = best.rest;
   }
-  return chosen;
+  return needed(board, chosen);
 }
 
 /**

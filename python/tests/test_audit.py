@@ -351,7 +351,7 @@ class Rows(Case):
         for row in rows.values():
             self.check(row, schema)
             seen |= row.keys()
-        self.assertEqual(set(schema["properties"]) - seen, {"unknown", "missing"})
+        self.assertEqual(set(schema["properties"]) - seen, {"missing"})
 
     def check(self, value, schema):
         """The little of JSON Schema that the schema uses."""

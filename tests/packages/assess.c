@@ -107,8 +107,6 @@ int main(int count, char **words) {
   if (it->is_blank) printf("flaw blank\n");
   if (it->lacks_background) printf("flaw background\n");
   print_place("flaw given", it->given);
-  print_place("unknown given", it->unknown);
-  print_place("flaw spare", it->spare);
   for (uint32_t at = 0; at < it->alike_count; at++)
     printf("flaw alike %c %c\n", it->alike[at][0], it->alike[at][1]);
   printf("%s\n", it->is_fit ? "fit" : "unfit");

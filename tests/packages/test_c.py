@@ -25,7 +25,7 @@ DIAGONAL = (0, 'unique\nsize 2 2\ncolours 3\ngivens 0\nopen 0\ngrade easy 1 4 3 
 GIVEN = (0, 'unique\nsize 2 2\ncolours 2\ngivens 1\nopen 0\ngrade easy 1 4 2 0 0\nfit')
 SPARE = (
     1,
-    'unique\nsize 2 2\ncolours 2\ngivens 2\nopen 0\ngrade easy 1 2 1 0 0\nflaw spare 2 2\nunfit',
+    'unique\nsize 2 2\ncolours 2\ngivens 2\nopen 0\ngrade easy 1 2 1 0 0\nflaw given 1 1\nunfit',
 )
 
 

@@ -97,8 +97,8 @@ FLAWS = {flaw.split(' ')[0] for case in TABLE for flaw in case.flaws}
 
 def test_the_table():
     """It has each flaw, with and without certificates, and no name twice."""
-    assert FLAWS == {'blank', 'background', 'given', 'spare', 'alike'}
-    assert {'blank', 'background', 'spare', 'alike'} <= {
+    assert FLAWS == {'blank', 'background', 'given', 'alike'}
+    assert FLAWS <= {
         flaw.split(' ')[0] for case in BY_CERTIFICATE for flaw in case.flaws
     }
     assert len({case.name for case in TABLE}) == len(TABLE) > 25
@@ -151,7 +151,6 @@ def test_any_given(library):
                 case.picture, case.certificate, case.triple, nonobench.ANY_GIVEN
             )
             assert said.givens == len(said.named) == case.certificate.count(b'given '), case.name
-            assert not [flaw for flaw in said.flaws if flaw.kind == 'spare'], case.name
     with pytest.raises(nonobench.CertificateFault, match='^certificate Place at line 2$'):
         nonobench.assess(
             TABLE[0].picture, b'nonocert 2\ngiven 9 9\ndone\n', published=nonobench.ANY_GIVEN
@@ -166,12 +165,12 @@ def test_any_given(library):
 
 
 def test_an_allowance(library):
-    """Under one a puzzle may be undecided, and is not fit then; and whether a given is needed may
-    be left open."""
+    """Under one a puzzle may be undecided, and is not fit then; whether a given is needed is known
+    under any."""
     import nonobench
 
     picture = nonobench.picture_of(2, 2, [(0, 0, 0), (255, 255, 255), (255, 255, 255), (0, 0, 0)])
-    for allowance in (-1, 100_000):
+    for allowance in (-1, 100_000, 'of'):
         with pytest.raises(ValueError):
             nonobench.assess(picture, allowance=allowance)
     with pytest.raises(ValueError, match='background goes with a P3 text'):
@@ -183,7 +182,10 @@ def test_an_allowance(library):
         None,
     )
     said = nonobench.assess(picture, published=[(2, 2)], allowance=0)
-    assert (said.is_fit, said.flaws, said.unknown) == (True, (), (2, 2))
+    assert (said.is_fit, said.flaws) == (True, ())
+    for allowance in (None, 'off'):
+        said = nonobench.assess(picture, allowance=allowance)
+        assert said.verdict.ruling is nonobench.Ruling.AMBIGUOUS
 
 
 def test_a_puzzle_of_two_colours(library):
@@ -387,7 +389,7 @@ def test_audit_allows(library, kind, tmp_path):
     """With the flaws of one kind, or of any, those puzzles count as fit."""
     site = tmp_path / 'site'
     site.mkdir()
-    allowed = FLAWS if kind == 'any' else {'given', 'spare'} if kind == 'given' else {kind}
+    allowed = FLAWS if kind == 'any' else {kind}
     chosen = [
         case
         for case in TABLE

@@ -186,11 +186,11 @@ const SAID = {
   other: null,
   open: 0,
   grade: {word: 'easy'},
-  flaws: ['spare 1 2', 'alike a b'],
+  flaws: ['given 1 2', 'alike a b'],
   fit: false
 };
 const ASKED =
-    'assess {"puzzle":"P3\\n2 2\\n255\\n0 0 0\\n255 0 0\\n0 0 255\\n0 0 0\\n","options":{"background":null,"givens":[],"format":"ppm"}}';
+    'assess {"puzzle":"P3\\n2 2\\n255\\n0 0 0\\n255 0 0\\n0 0 255\\n0 0 0\\n","options":{"background":"255,255,255","givens":[],"format":"ppm"}}';
 
 test(
     'what is said of a picture without a guess and without givens is a moment of the worker',
@@ -200,7 +200,7 @@ test(
       const {flaws, grade} = await searches.assess(60);
       assert.deepEqual(
           [grade.word, flaws],
-          ['easy', [{kind: 'spare', place: [1, 2]}, {kind: 'alike', letters: ['a', 'b']}]]
+          ['easy', [{kind: 'given', place: [1, 2]}, {kind: 'alike', letters: ['a', 'b']}]]
       );
       assert.deepEqual(log, ['start', ASKED], 'nothing is opened for it');
     }

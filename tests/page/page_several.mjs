@@ -433,7 +433,7 @@ test('the examples, as they are published', { skip: needsModule.skip || waits('0
     judge.end();
 });
 
-test('a triple beside a picture counts as named, white too, and not beside a text that has a background of its own', { skip: needsModule.skip || waits('0.7.0') }, async () => {
+test('a background that no cell has is a flaw, whatever tells it', { skip: needsModule.skip || waits('0.8.0') }, async () => {
     const judge = new Judge({seconds: 20, start: () => new Client(workers()())});
     const flaws = async (files) =>
         (await judge.judge(await docOf(files))).flaws.map(({kind}) => kind);
@@ -447,18 +447,16 @@ test('a triple beside a picture counts as named, white too, and not beside a tex
       );
     }
     const white = 'P3 2 1 9 9 9 9 0 0 0';
-    for (const [picture, text] of [
-             [white, '9,9,9'],
-             [white, 'white'],
-             [ppmTextOf(await docOf({'a.xml': xml})), 'white'],
-             [null, '255,255,255']]) {
-      assert.deepEqual(
-          await flaws(
-              picture ? {'a.ppm': picture, 'a.ppm.background': text} :
-                        {'a.xml': xml, 'a.xml.background': text}
-          ),
-          []
-      );
+    for (const [files, wanted] of [
+             [{'a.ppm': white, 'a.ppm.background': '9,9,9'}, []],
+             [{'a.ppm': white, 'a.ppm.background': 'white'}, []],
+             [{'a.ppm': red}, ['background']],
+             [
+               {'a.ppm': ppmTextOf(await docOf({'a.xml': xml})), 'a.ppm.background': 'white'},
+               ['background']
+             ],
+             [{'a.xml': xml, 'a.xml.background': '255,255,255'}, ['background']]]) {
+      assert.deepEqual(await flaws(files), wanted);
     }
     const image = {width: 1, height: 1, data: Uint8ClampedArray.of(200, 0, 0, 255)};
     const imageDocs = async (file, bytes, ground) => [docByItself(image, await ground(image, 255))];

@@ -92,7 +92,7 @@ BESIDE = {
     ('--givens', 'both'): TWICE + 'flaw given 1 1\nunfit\n',
     ('--givens', 'outside'): 'refused givens Place at line 1\n',
     ('--givens', 'corner', '--certificate', 'cert'): HELD + 'fit\n',
-    ('--givens', 'both', '--certificate', 'cert'): TWICE + 'flaw spare 2 2\nunfit\n',
+    ('--givens', 'both', '--certificate', 'cert'): TWICE + 'flaw given 1 1\nunfit\n',
     (
         '--givens',
         'none',
@@ -118,6 +118,8 @@ REFUSED = {
     ('ring', 'ring', '--certificate', 'cert'): 'givens and certificate go with one file',
     ('absent', '--background', '1,2'): 'background must be R,G,B',
     ('absent', '--format', 'non', '--background', '1,2,3'): 'background goes with ppm',
+    ('absent', '--allow', '100000'): 'allowance must be 0 to 99999 or off',
+    ('absent', '--allow', 'of'): 'allowance must be 0 to 99999 or off',
 }
 
 
@@ -130,7 +132,7 @@ def test_refused(nonobench, folder, words):
 
 @pytest.mark.parametrize(
     'words',
-    [[], ['ring', '--allow', '100000'], ['ring', '--allow', 'off'], ['ring', '--format', 'png']],
+    [[], ['ring', '--format', 'png']],
 )
 def test_words(nonobench, folder, words):
     run = assessed(nonobench, folder, *words)

@@ -123,7 +123,7 @@ class Way:
             self.edit(f'{"pin" if (row, col) in givens else "unpin"} {row + 1} {col + 1}')
         self.rows, self.givens = rows, givens
 
-    def ask(self, others, named):
+    def ask(self, others, off):
         """Asks for assessment and path; `others` are the other pictures with the clues, each with
         the cells in which it differs."""
         givens, document = self.givens, Document(255, self.colours, self.rows, self.givens)
@@ -144,14 +144,14 @@ class Way:
         def judge(output):
             if 'assess' in self.asks:
                 agree(
-                    not must_assess(output, Assessment(document, named, verdict), must_be_other),
+                    not must_assess(output, Assessment(document, verdict), must_be_other),
                     'no certificate is found',
                 )
             if 'path' in self.asks:
                 output.must_lines(*Solving(document.rows, givens).path_lines())
 
         self.lines += [
-            f'{word} named' if word == 'assess' and named else word for word in self.asks
+            f'{word} off' if word == 'assess' and off else word for word in self.asks
         ]
         self.asked.append(judge)
 
@@ -292,8 +292,8 @@ def some_commands(chance, document, asks):
         lines += ['paint 1 1 a', 'delete row 1', 'insert column 1']
     if chance.random() < 0.3:
         lines.append(f'allow {chance.choice((0, 0, 0, 1, 1, 2, 3))}')
-    named = chance.choice(('', ' named'))
-    lines += [word + named if word == 'assess' else word for word in asks]
+    off = chance.choice(('', ' off'))
+    lines += [word + off if word == 'assess' else word for word in asks]
     return ''.join(line + '\n' for line in lines).encode()
 
 

@@ -1,6 +1,5 @@
 -- What the assessment of a puzzle gives for the texts of its files.
 use Rattle.std.specs.Prelude.{◌≡◌, ◌⊎◌, ℕ, Bool, true, false, List, length, Option, None, Some, Result, Ok, Err}
-use Rattle.std.specs.Prelude.{is_some}
 use Rattle.picture.specs.declared.document.Document.{Document}
 use Rattle.picture.specs.declared.rgb.Rgb.{Rgb}
 use Rattle.picture.specs.Rows.{Rows, width_of}
@@ -83,23 +82,21 @@ Publishes file givens options (Err e) = (e ≡ Memory) ⊎ (OpensPuzzle file opt
 -- ---- what is found
 
 -- by a certificate that was read: it proves that there is one solution, or is refused by the checker
-abbrev pub FindsByCert : Document → Bool → Certificate → Result Assessment ProgramFault → Type 0
-FindsByCert document is_named cert (Ok found) = IsAssessmentBy document is_named cert found
-FindsByCert document is_named cert (Err e) =
+abbrev pub FindsByCert : Document → Certificate → Result Assessment ProgramFault → Type 0
+FindsByCert document cert (Ok found) = IsAssessmentBy document cert found
+FindsByCert document cert (Err e) =
     (fault : CertFault) × (IsRefused document cert fault × (e ≡ cert_fault_of fault))
 
 -- by the text of a certificate, which may be refused by its reader
-abbrev pub FindsBy : Document → Bool → Result Certificate CertFault → Result Assessment ProgramFault → Type 0
-FindsBy document is_named (Ok cert) r = FindsByCert document is_named cert r
-FindsBy document is_named (Err fault) r = r ≡ Err (cert_fault_of fault)
+abbrev pub FindsBy : Document → Result Certificate CertFault → Result Assessment ProgramFault → Type 0
+FindsBy document (Ok cert) r = FindsByCert document cert r
+FindsBy document (Err fault) r = r ≡ Err (cert_fault_of fault)
 
 -- What is found of a document: under an allowance, or by the text of a certificate. Or memory ran out.
 abbrev pub Finds : Document → Option (List ℕ) → AssessOptions → Result Assessment ProgramFault → Type 0
-Finds document None options (Ok found) =
-    IsAssessment document (is_some options.background) options.allowance found
+Finds document None options (Ok found) = IsAssessment document options.allowance found
 Finds document None options (Err e) = e ≡ Memory
-Finds document (Some text) options r =
-    (r ≡ Err Memory) ⊎ FindsBy document (is_some options.background) (cert_of text) r
+Finds document (Some text) options r = (r ≡ Err Memory) ⊎ FindsBy document (cert_of text) r
 
 -- ---- the block
 

@@ -1,6 +1,6 @@
 //! The assessment of a puzzle by the texts of its files: whether it is fit to be published.
 
-ghost use Rattle.std.specs.Prelude.{◌≡◌, is_some, option_map};
+ghost use Rattle.std.specs.Prelude.{◌≡◌, option_map};
 ghost use Rattle.answers.specs.Assess.{Assesses, Finds, IsGoal, OpensPuzzle, Publishes};
 ghost use Rattle.answers.specs.Open.{Opened};
 
@@ -24,8 +24,7 @@ pub struct Block {
 }
 
 /// Assesses the puzzle of a P3 text, or of a .non text with a goal. `givens` is the text of a file of givens, which are published
-/// in place of the picture's own. With `cert`, the text of a certificate, nothing is searched. A background counts as named where
-/// the options have one.
+/// in place of the picture's own. `cert` is the text of a certificate, which takes the place of the search for another solution.
 ///
 /// The error is that of the first that refuses: the reader of the puzzle (`NoGoal` for a .non text without a goal), of the givens,
 /// of the certificate, the checker; or `Memory`.
@@ -108,10 +107,9 @@ fn found_of(
     ensures { Finds document.now (option_map (λ text. text.now) cert.entry) options.now result }
 {
     let mut engine = MaskEngine::make(alloc, MAX_SIDE)?;
-    let is_named = options.background.is_some();
     let Some(cert) = cert else {
-        return Ok(assess(alloc, &mut engine, document, is_named, options.allowance)?);
+        return Ok(assess(alloc, &mut engine, document, options.allowance)?);
     };
     let cert = read_cert(alloc, cert)?;
-    Ok(assess_by(alloc, &mut engine, document, is_named, &cert)?)
+    Ok(assess_by(alloc, &mut engine, document, &cert)?)
 }

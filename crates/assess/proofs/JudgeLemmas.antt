@@ -27,8 +27,9 @@ use Rattle.second_search.proofs.DrawLemmas.{few_alike}
 use Rattle.second_search.proofs.PartLemmas.{open_in_picture}
 use Rattle.second_search.proofs.PickLemmas.{same_list}
 use Rattle.assess.specs.declared.assessment.Verdict.{Verdict}
+use Rattle.assess.specs.declared.assessment.Verdict.TheVariants as verdicts
 use Rattle.assess.specs.declared.grading.TheConstants.{GRADE_EVALUATIONS, GRADE_LINES}
-use Rattle.assess.specs.Calls.{AreFewBy, AreFewInAll, AreFewInParts, AreFewJudged, most_in_parts, most_in_trees, most_to_grade, most_to_judge}
+use Rattle.assess.specs.Calls.{AreFewBy, AreFewInAll, AreFewInParts, most_besides, most_in_parts, most_in_trees, most_to_grade}
 use Rattle.assess.specs.Judging.{AreJudged, IsVerdict, verdict_of}
 use Rattle.assess.specs.Settling.{HasFigures, IsMap}
 
@@ -86,16 +87,6 @@ pub no_calls : (picture : Rows) (allowance : Option ℕ) (calls : ℕ) → AreFe
 no_calls picture None calls = tt
 no_calls picture (Some splits) calls = omega arith
 
--- closing the facts of the givens, and then the search of the parts
-pub closed_then : (picture : Rows) (allowance : Option ℕ) (before between after : ℕ) → between ≤ before + most_to_close picture → AreFewInParts picture allowance between after
-    → AreFewJudged picture allowance 1 before after
-unfolding most_to_judge
-closed_then picture None before between after c few = tt
-closed_then picture (Some splits) before between after c few = omega arith
-
-pub closed_only : (picture : Rows) (allowance : Option ℕ) (before after : ℕ) → after ≤ before + most_to_close picture → AreFewJudged picture allowance 1 before after
-closed_only picture allowance before after c = closed_then picture allowance before after after c (no_calls picture allowance after)
-
 -- ---- verdicts
 
 only_one : (clues : Clues) (givens : List ℕ) (picture : Rows) → ((other : Rows) → IsOther clues (HasCell givens) picture other → ⊥) → IsOnlySolution clues (HasCell givens) picture
@@ -136,6 +127,13 @@ verdict_told {X = X} picture givens allowance map kept last clues result answer 
     subst (IsVerdict picture givens allowance) (sym same)
     (verdict_as picture givens allowance map kept last k.1.1.searched k.1.1.splits is_map starts answer k.0 k.1.0 judges true_answer)
 
+-- a verdict says where there is one solution
+pub only_where : (picture : Rows) (givens : List ℕ) (allowance : Option ℕ) (verdict : Verdict) → IsVerdict picture givens allowance verdict → verdict ≡ verdicts.Unique
+    → IsOnlySolution (clues_of picture) (HasCell givens) picture
+only_where picture givens allowance verdicts.Unique is e = is.1
+only_where picture givens allowance (verdicts.Ambiguous other) is e = absurd cc
+only_where picture givens allowance verdicts.Undecided is e = absurd cc
+
 -- ---- a grade
 
 pub in_trees : (picture : Rows) (before after : ℕ) → after ≤ before + 2 * most_in_tree picture GRADE_EVALUATIONS → after ≤ before + most_in_trees picture
@@ -152,47 +150,42 @@ trees_and_lines picture lines before made after m a l = omega arith
 
 -- ---- an assessment
 
-pub no_verdicts : (picture : Rows) (allowance : Option ℕ) (verdicts calls : ℕ) → AreFewJudged picture allowance verdicts calls calls
-no_verdicts picture None verdicts calls = tt
-no_verdicts picture (Some splits) verdicts calls = omega arith
-
-pub alike_judged : (shown picture : Rows) (allowance : Option ℕ) (before after : ℕ) → shown ≡ picture → AreFewJudged shown allowance 1 before after
-    → AreFewJudged picture allowance 1 before after
-alike_judged shown picture allowance before after e few = subst (λ (rows : Rows). AreFewJudged rows allowance 1 before after) e few
-
-parts_few : (picture : Rows) (splits : ℕ) → most_in_parts picture splits ≤ most_to_judge picture splits
-unfolding most_to_judge
-parts_few picture splits = omega arith
+no_parts : (picture : Rows) (allowance : Option ℕ) (before after : ℕ) → after ≤ before → AreFewInParts picture allowance before after
+no_parts picture None before after l = tt
+no_parts picture (Some splits) before after l = omega arith
 
 -- nothing was looked at yet
 pub none_yet : (picture : Rows) (givens : List ℕ) (allowance : Option ℕ) (before after : ℕ) → after ≡ before → AreFewInAll picture givens allowance before after
-none_yet picture givens None before after e = ([], (inl refl, tt))
-none_yet picture givens (Some splits) before after e =
-    let l : after ≤ before + (0 + most_to_grade picture) + (1 + cell_count givens) * most_to_judge picture splits = omega arith in
-    ([], (inl refl, l))
+none_yet picture givens allowance before after e = ([], (inl refl, no_parts picture allowance (before + (0 + most_besides picture givens)) after (omega arith)))
 
--- the looks, a verdict, a grade, and a verdict without each given
+-- the looks, the parts, a grade, and line logic without each given
 pub few_in_all : (picture : Rows) (givens : List ℕ) (allowance : Option ℕ) (figures : Figures) (before looked judged graded after : ℕ) → HasFigures picture givens figures
-    → looked ≤ before + figures.evaluations → AreFewInParts picture allowance looked judged → graded ≤ judged + most_to_grade picture → AreFewJudged picture allowance (cell_count givens) graded after
-    → AreFewInAll picture givens allowance before after
+    → looked ≤ before + figures.evaluations → AreFewInParts picture allowance looked judged → graded ≤ judged + most_to_grade picture
+    → after ≤ graded + cell_count givens * most_to_close picture → AreFewInAll picture givens allowance before after
+unfolding most_besides
 few_in_all picture givens None figures before looked judged graded after f l one g more = (f.looks, (inr (f.map, f.are_looks), tt))
 few_in_all picture givens (Some splits) figures before looked judged graded after f l one g more =
-    let n : figures.evaluations ≡ length f.looks = ap (λ (x : Figures). x.evaluations) f.figures_are in
-    let all : (1 + cell_count givens) * most_to_judge picture splits ≡ most_to_judge picture splits + cell_count givens * most_to_judge picture splits = omega arith in (
+    let n : figures.evaluations ≡ length f.looks = ap (λ (x : Figures). x.evaluations) f.figures_are in (
       f.looks,
       (
         inr (f.map, f.are_looks),
-        (let m : after ≤ before + (length f.looks + most_to_grade picture) + (1 + cell_count givens) * most_to_judge picture splits =
-            omega (arith, parts_few picture splits) in m),
+        (let m : after ≤ before + (length f.looks + (most_to_grade picture + cell_count givens * most_to_close picture)) + most_in_parts picture splits = omega arith in m),
       ),
     )
 
 pub none_by : (picture : Rows) (givens : List ℕ) (cert : Certificate) (before after : ℕ) → after ≤ before + length cert.lines → AreFewBy picture givens cert before after
-none_by picture givens cert before after l = ([], (inl refl, (let m : after ≤ before + (0 + 2 * length cert.lines) = omega arith in m)))
+none_by picture givens cert before after l = ([], (inl refl, (let m : after ≤ before + (length cert.lines + (0 + most_besides picture givens)) = omega arith in m)))
 
--- the check, the looks, and the grade
-pub few_by : (picture : Rows) (givens : List ℕ) (cert : Certificate) (figures : Figures) (before checked looked after : ℕ) → HasFigures picture givens figures
-    → checked ≤ before + length cert.lines → looked ≤ checked + figures.evaluations → after ≤ looked + length cert.lines → AreFewBy picture givens cert before after
-few_by picture givens cert figures before checked looked after f a b c =
-    let n : figures.evaluations ≡ length f.looks = ap (λ (x : Figures). x.evaluations) f.figures_are in
-    (f.looks, (inr (f.map, f.are_looks), (let m : after ≤ before + (length f.looks + 2 * length cert.lines) = omega arith in m)))
+-- the check, the looks, a grade, and line logic without each given
+pub few_by : (picture : Rows) (givens : List ℕ) (cert : Certificate) (figures : Figures) (before checked looked graded after : ℕ) → HasFigures picture givens figures
+    → checked ≤ before + length cert.lines → looked ≤ checked + figures.evaluations → graded ≤ looked + most_to_grade picture
+    → after ≤ graded + cell_count givens * most_to_close picture → AreFewBy picture givens cert before after
+unfolding most_besides
+few_by picture givens cert figures before checked looked graded after f a b g more =
+    let n : figures.evaluations ≡ length f.looks = ap (λ (x : Figures). x.evaluations) f.figures_are in (
+      f.looks,
+      (
+        inr (f.map, f.are_looks),
+        (let m : after ≤ before + (length cert.lines + (length f.looks + (most_to_grade picture + cell_count givens * most_to_close picture))) = omega arith in m),
+      ),
+    )

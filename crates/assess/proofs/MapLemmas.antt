@@ -132,7 +132,7 @@ pub map_settled : (clues : Clues) (picture : Rows) (givens : List ℕ) (base : M
     → IsLeast clues base map → IsMap picture givens map
 map_settled clues picture givens base map e b l = (base, (b, subst (λ (c : Clues). IsLeast c base map) e l))
 
-cell_inside : (picture : Rows) (row col : ℕ) → IsPicture picture → col < length (row_at picture row) → (row < length picture) × (col < width_of picture)
+pub cell_inside : (picture : Rows) (row col : ℕ) → IsPicture picture → col < length (row_at picture row) → (row < length picture) × (col < width_of picture)
 cell_inside picture row col is l = elim (cases_lt row (length picture)) [
   | inl h ↦ (h, (let r = is.rectangular row h in let w : col < width_of picture = omega arith in w))
   | inr past ↦ (let none = ap length (get_or_past picture row [] past) in absurd (omega arith))

@@ -1,89 +1,200 @@
--- Going through the givens in order: what is known of those that were left out.
+-- A given adds nothing where lines settle its cell without it; and going through the givens in order.
 use Rattle.std.proofs.Common.{◌≡◌, ℕ, ◌+◌, ◌*◌, ◌<◌, ◌≤◌, Bool, true, false, List, Option, None, Some, Result, Ok, Err, IfOk, length, refl, sym, ap, subst, ◌∙◌, arith, inl, inr}
-use Rattle.std.proofs.lemmas.Bool.{false≢true}
+use Rattle.std.specs.Prelude.{IsBitSet, MatchOption, is_some}
+use Rattle.std.proofs.lemmas.Bool.{cases_eq, cases_lt}
 use Rattle.picture.specs.CellSet.{HasCell, TakesOutCell, cell_count}
 use Rattle.picture.specs.Document.{AreInside}
-use Rattle.picture.specs.Rows.{width_of, Rows}
+use Rattle.picture.specs.Picture.{IsPicture}
+use Rattle.picture.specs.Rows.{width_of, row_at, cell_at, Rows}
+use Rattle.picture.proofs.BitLaws.{no_bit}
+use Rattle.clues.specs.ClueBook.{clues_of}
+use Rattle.clues.specs.Solution.{IsOnlySolution, Solves}
+use Rattle.line_facts.specs.FactSets.{IsBase, IsWithin, Leaves, SameShape}
+use Rattle.line_facts.specs.Masks.{IsOnly, Masks}
+use Rattle.line_facts.proofs.GridLaws.{shape_sym, shape_trans}
+use Rattle.second_search.specs.Evaluations.{most_to_close}
+use Rattle.second_search.specs.Parts.{IsOpenCell, IsScene}
+use Rattle.second_search.proofs.PartLemmas.{settled_there, solves_itself}
+use Rattle.second_search.proofs.PickLemmas.{outside_is_0}
 use Rattle.trail.specs.declared.cell.Cell.{Cell}
-use Rattle.assess.specs.declared.assessment.Spare.{Spare}
-use Rattle.assess.specs.declared.assessment.Spare.TheVariants.{Nothing, Given, Unknown, Unnamed}
-use Rattle.assess.specs.declared.assessment.Verdict.{Verdict}
-use Rattle.assess.specs.declared.assessment.Verdict.TheVariants.{Unique, Ambiguous, Undecided}
-use Rattle.assess.specs.Assessed.{IsSpareIf}
-use Rattle.assess.specs.Calls.{AreFewJudged, most_to_judge}
-use Rattle.assess.specs.Judging.{IsVerdict}
+use Rattle.assess.specs.Settling.{IsMap}
+use Rattle.assess.specs.Spares.{AddsNothing, AreNeededBefore, ComesBefore, HasMap, IsNeededAt, IsSettledIf, IsSpare, IsSpareAt, LeavesSameOpen, SettlesWithout, Without}
+use Rattle.assess.proofs.MapLemmas.{cell_inside, scene_is}
 use Rattle.assess.proofs.OrderLemmas.{before_next, none_before, row_ended}
-use Rattle.assess.specs.Spares.{ComesBefore, HasNone, HasNoneBefore, HasWithout, IsSpare, IsSpareBefore, IsWithout, is_given, is_undecided, is_unique, spare_after}
 
--- ---- calls
+-- ---- a given left out
 
--- so many givens wait, and those that were left out took their share
-abbrev pub AreFewTried : Rows → Option ℕ → ℕ → ℕ → ℕ → ℕ → Type 0
-AreFewTried picture None all waiting before now = Unit {0}
-AreFewTried picture (Some splits) all waiting before now = now + waiting * most_to_judge picture splits ≤ before + all * most_to_judge picture splits
+map_shape : (picture : Rows) (givens : List ℕ) (map : Masks) → IsMap picture givens map → SameShape picture map
+map_shape picture givens map m = shape_trans m.1.0.same_shape m.1.1.holds.same_shape
 
-pub tried_none : (picture : Rows) (allowance : Option ℕ) (all calls : ℕ) → AreFewTried picture allowance all all calls calls
-tried_none picture None all calls = tt
-tried_none picture (Some splits) all calls = omega arith
+-- a cell in which a colour is left lies in the picture
+left_inside : (picture : Rows) (facts : Masks) (row col k : ℕ) → IsPicture picture → SameShape picture facts → Leaves facts row col k → (row < length picture) × (col < width_of picture)
+left_inside picture facts row col k is shape l =
+    let same = shape.each row in
+    elim (cases_lt col (length (row_at facts row))) [
+      | inl near ↦ cell_inside picture row col is (omega arith)
+      | inr past ↦ absurd (no_bit k (subst (λ (m : ℕ). IsBitSet m k) (outside_is_0 facts row col past) l))
+    ]
 
-pub tried_more : (picture : Rows) (allowance : Option ℕ) (all waiting rest before now later : ℕ) → rest + 1 ≡ waiting → AreFewTried picture allowance all waiting before now
-    → AreFewJudged picture allowance 1 now later → AreFewTried picture allowance all rest before later
-tried_more picture None all waiting rest before now later e t one = tt
-tried_more picture (Some splits) all waiting rest before now later e t one =
-    let same : (rest + 1) * most_to_judge picture splits ≡ waiting * most_to_judge picture splits = ap (λ (n : ℕ). n * most_to_judge picture splits) e in
-    omega arith
+module _ (picture : Rows) (givens others : List ℕ) (row col : ℕ) (before after : Masks) (is : IsPicture picture) (takes : TakesOutCell givens others row col)
+    (map_before : IsMap picture givens before) (map_after : IsMap picture others after) where
+  remains : (r c : ℕ) → HasCell others r c → HasCell givens r c
+  remains r c h = ((takes r c).0 h).0
 
-pub tried_all : (picture : Rows) (allowance : Option ℕ) (all waiting before now : ℕ) → AreFewTried picture allowance all waiting before now → AreFewJudged picture allowance all before now
-tried_all picture None all waiting before now t = tt
-tried_all picture (Some splits) all waiting before now t = omega arith
+  scene : IsScene (clues_of picture) others after picture
+  scene = scene_is (clues_of picture) picture others after is refl map_after
+
+  -- what is left with the given is left without it
+  still_left : IsWithin after before
+  still_left = map_after.1.1.least before map_before.1.1.closed record {
+    same_shape = shape_trans (shape_sym map_after.1.0.same_shape) (map_shape picture givens before map_before);
+    leaves = λ r c k l.
+        let inside = left_inside picture before r c k is (map_shape picture givens before map_before) l in
+        let o = (map_before.1.0.left r c k inside.0 inside.1).0 (map_before.1.1.holds.leaves r c k l) in
+        (map_after.1.0.left r c k inside.0 inside.1).1 (o.0, (λ h. o.1 (remains r c h)));
+  }
+
+  -- a cell of a given is not open
+  given_closed : HasCell givens row col → IsOpenCell before row col → ⊥
+  given_closed g o =
+      let only : (k : ℕ) → Leaves before row col k → k ≡ cell_at picture row col = λ k l.
+          let inside = left_inside picture before row col k is (map_shape picture givens before map_before) l in
+          ((map_before.1.0.left row col k inside.0 inside.1).0 (map_before.1.1.holds.leaves row col k l)).1 g in
+      o.4 (only o.0 o.2 ∙ sym (only o.1 o.3))
+
+  -- where the same cells are open, lines settle the cell without the given
+  same_settles : HasCell givens row col → LeavesSameOpen before after → row < length picture → col < width_of picture → IsOnly (cell_at after row col) (cell_at picture row col)
+  same_settles g same h w = settled_there (clues_of picture) others after picture row col scene h w (λ o. given_closed g ((same row col).1 o))
+
+  module _ (h : row < length picture) (w : col < width_of picture) (k : ℕ) (only : IsOnly (cell_at after row col) k) where
+    -- the colour that lines settle is the picture's
+    own : (j : ℕ) → Leaves after row col j → j ≡ cell_at picture row col
+    own j l =
+        let long : col < length (row_at picture row) = (let r = is.rectangular row h in omega arith) in
+        (only j).0 l ∙ sym ((only (cell_at picture row col)).0 (scene.sound.leave picture (solves_itself (clues_of picture) others after picture scene) row col long))
+
+    own_there : (r c j : ℕ) → r ≡ row → c ≡ col → Leaves after r c j → j ≡ cell_at picture r c
+    own_there r c j e f l =
+        let there : Leaves after row col j = subst (λ (x : ℕ). Leaves after x col j) e (subst (λ (y : ℕ). Leaves after r y j) f l) in
+        own j there ∙ sym (ap (λ (x : ℕ). cell_at picture x c) e ∙ ap (λ (y : ℕ). cell_at picture row y) f)
+
+    -- so what is left without the given is left with it
+    left_too : IsWithin before after
+    left_too = map_before.1.1.least after map_after.1.1.closed record {
+      same_shape = shape_trans (shape_sym map_before.1.0.same_shape) (map_shape picture others after map_after);
+      leaves = λ r c j l.
+          let inside = left_inside picture after r c j is (map_shape picture others after map_after) l in
+          let o = (map_after.1.0.left r c j inside.0 inside.1).0 (map_after.1.1.holds.leaves r c j l) in
+          let has : HasCell givens r c → j ≡ cell_at picture r c = λ g. elim (cases_eq r row) [
+            | inl e ↦ elim (cases_eq c col) [ inl f ↦ own_there r c j e f l | inr d ↦ o.1 ((takes r c).1 (g, (λ s. d s.1))) ]
+            | inr d ↦ o.1 ((takes r c).1 (g, (λ s. d s.0)))
+          ] in
+          (map_before.1.0.left r c j inside.0 inside.1).1 (o.0, has);
+    }
+
+    same_open : LeavesSameOpen before after
+    same_open r c = (
+      (λ o. (o.0, o.1, still_left.leaves r c o.0 o.2, still_left.leaves r c o.1 o.3, o.4)),
+      (λ o. (o.0, o.1, left_too.leaves r c o.0 o.2, left_too.leaves r c o.1 o.3, o.4)),
+    )
+
+    -- and there is still one solution
+    still_one : IsOnlySolution (clues_of picture) (HasCell givens) picture → IsOnlySolution (clues_of picture) (HasCell others) picture
+    still_one one other s =
+        let long : col < length (row_at other row) = (let r = is.rectangular row h in let same = s.columns row in omega arith) in
+        let here : cell_at other row col ≡ cell_at picture row col = own (cell_at other row col) (scene.sound.leave other s row col long) in
+        let there : (r c : ℕ) → r ≡ row → c ≡ col → cell_at other r c ≡ cell_at picture r c = λ r c e f.
+            let P : ℕ → ℕ → Type 0 = λ x y. cell_at other x y ≡ cell_at picture x y in
+            subst (λ (x : ℕ). P x c) (sym e) (subst (λ (y : ℕ). P row y) (sym f) here) in
+        one other record {
+          is_picture = s.is_picture;
+          rows = s.rows;
+          columns = s.columns;
+          has_clues = s.has_clues;
+          keeps_givens = λ r c g. elim (cases_eq r row) [
+            | inl e ↦ elim (cases_eq c col) [ inl f ↦ there r c e f | inr d ↦ s.keeps_givens r c ((takes r c).1 (g, (λ x. d x.1))) ]
+            | inr d ↦ s.keeps_givens r c ((takes r c).1 (g, (λ x. d x.0)))
+          ];
+        }
+
+-- ---- whether the given is needed
+
+module _ (picture : Rows) (givens : List ℕ) (is : IsPicture picture) (inside : AreInside givens picture) (mapped : HasMap picture givens) (row col : ℕ) (given : HasCell givens row col) where
+  abbrev without_by : (settled : Bool) → SettlesWithout picture givens row col settled → Without picture givens row col
+  without_by settled s = record {
+    others = s.others;
+    left_out = s.left_out;
+    map_with = mapped.0;
+    is_map_with = mapped.1;
+    map_without = s.map;
+    is_map_without = s.is_map;
+  }
+
+  pub needed_if : (settled : Bool) → settled ≡ false → SettlesWithout picture givens row col settled → IsNeededAt picture givens row col
+  needed_if true e s = absurd cc
+  needed_if false e s = record {
+    without = without_by false s;
+    adds_some = λ nothing. s.settled_if (cell_at picture row col)
+        (same_settles picture givens s.others row col mapped.0 s.map is s.left_out mapped.1 s.is_map given nothing.1 (inside row col given).0 (inside row col given).1);
+  }
+
+  pub spare_if : (settled : Bool) → settled ≡ true → IsOnlySolution (clues_of picture) (HasCell givens) picture → SettlesWithout picture givens row col settled → IsSpareAt picture givens row col
+  spare_if false e one s = absurd cc
+  spare_if true e one s =
+      let h = (inside row col given).0 in
+      let w = (inside row col given).1 in
+      record {
+        given = given;
+        without = without_by true s;
+        adds_nothing = (
+          still_one picture givens s.others row col mapped.0 s.map is s.left_out mapped.1 s.is_map h w s.settled_if.0 s.settled_if.1 one,
+          same_open picture givens s.others row col mapped.0 s.map is s.left_out mapped.1 s.is_map h w s.settled_if.0 s.settled_if.1,
+        );
+      }
 
 -- ---- one given left out
 
-pub left_out_as : {X : Type 0} → (picture shown : Rows) (givens copied others : List ℕ) (allowance : Option ℕ) (row col : ℕ) (result : Result Verdict X) → shown ≡ picture → copied ≡ givens
-    → TakesOutCell copied others row col → IfOk result (IsVerdict shown others allowance) → IfOk result (IsWithout picture givens allowance row col)
-left_out_as picture shown givens copied others allowance row col (Ok verdict) p g takes is = record {
+pub settled_so : (shown : Option ℕ) (mask : ℕ) → MatchOption shown ((k : ℕ) → IsOnly mask k → ⊥) (λ k. IsOnly mask k) → IsSettledIf (is_some shown) mask
+settled_so None mask none = none
+settled_so (Some k) mask only = (k, only)
+
+pub map_tall : (picture : Rows) (givens : List ℕ) (map : Masks) → IsMap picture givens map → length picture ≡ length map
+map_tall picture givens map m = (map_shape picture givens map m).rows
+
+pub map_wide : (picture : Rows) (givens : List ℕ) (map : Masks) → IsMap picture givens map → width_of picture ≡ width_of map
+map_wide picture givens map m = (map_shape picture givens map m).each 0
+
+pub settles_as : (picture shown : Rows) (givens copied others : List ℕ) (row col : ℕ) (map : Masks) (settled : Bool) → shown ≡ picture → copied ≡ givens
+    → TakesOutCell copied others row col → IsMap shown others map → IsSettledIf settled (cell_at map row col) → SettlesWithout picture givens row col settled
+settles_as picture shown givens copied others row col map settled p g takes m so = record {
   others = others;
   left_out = subst (λ (cells : List ℕ). TakesOutCell cells others row col) g takes;
-  is_verdict = subst (λ (rows : Rows). IsVerdict rows others allowance verdict) p is;
+  map = map;
+  is_map = subst (λ (rows : Rows). IsMap rows others map) p m;
+  settled_if = so;
 }
-left_out_as picture shown givens copied others allowance row col (Err refused) p g takes is = tt
-
-pub spare_if : {X : Type 0} → (picture : Rows) (givens : List ℕ) (allowance : Option ℕ) (verdict : Verdict) (result : Result Spare X) → verdict ≡ Unique
-    → IfOk result (IsSpare picture givens allowance) → IfOk result (IsSpareIf picture givens allowance verdict)
-spare_if picture givens allowance verdict (Ok spare) e is = subst (λ (v : Verdict). IsSpareIf picture givens allowance v spare) (sym e) is
-spare_if picture givens allowance verdict (Err refused) e is = tt
 
 -- ---- places
 
--- what is known of the givens before a place, and which givens wait
-pub record Tried (picture : Rows) (givens : List ℕ) (allowance : Option ℕ) (waiting : List ℕ) (spare : Spare) (row col before now : ℕ) : Type 0 where
-  pub so_far : IsSpareBefore picture givens allowance row col spare
+-- each given before a place is needed, and the others wait; those that do not took their share of the calls
+pub record Tried (picture : Rows) (givens waiting : List ℕ) (row col before now : ℕ) : Type 0 where
+  pub so_far : AreNeededBefore picture givens row col
   pub waits : (r c : ℕ) → HasCell givens r c → (ComesBefore r c row col → ⊥) → HasCell waiting r c
   pub are : (r c : ℕ) → HasCell waiting r c → HasCell givens r c
-  pub few : AreFewTried picture allowance (cell_count givens) (cell_count waiting) before now
+  pub few : now + cell_count waiting * most_to_close picture ≤ before + cell_count givens * most_to_close picture
 
-module _ (picture : Rows) (givens : List ℕ) (allowance : Option ℕ) where
-  -- what is known stays known at a later place
-  moved : (spare : Spare) (row col r c : ℕ) → ((kind : Verdict → Bool) → HasNoneBefore picture givens allowance kind row col → HasNoneBefore picture givens allowance kind r c)
-      → IsSpareBefore picture givens allowance row col spare → IsSpareBefore picture givens allowance r c spare
-  moved Nothing row col r c more s = (more is_unique s.0, more is_undecided s.1)
-  moved (Given cell) row col r c more s = s
-  moved (Unnamed cell) row col r c more s = s
-  moved (Unknown cell) row col r c more s = (more is_unique s.0, s.1)
+pub one_less : (most waiting rest all before now later : ℕ) → rest + 1 ≡ waiting → now + waiting * most ≤ before + all * most → later ≤ now + most → later + rest * most ≤ before + all * most
+one_less most waiting rest all before now later e t one =
+    let same : (rest + 1) * most ≡ waiting * most = ap (λ (n : ℕ). n * most) e in
+    omega arith
 
-  none_unique : (spare : Spare) (row col : ℕ) → IsSpareBefore picture givens allowance row col spare → HasNoneBefore picture givens allowance is_unique row col
-  none_unique Nothing row col s = s.0
-  none_unique (Given cell) row col s = absurd s
-  none_unique (Unnamed cell) row col s = absurd s
-  none_unique (Unknown cell) row col s = s.0
-
-  -- one place further, where nothing or something is known of the cell
-  further : (kind : Verdict → Bool) (row col : ℕ) → (HasCell givens row col → HasWithout picture givens allowance kind false row col) → HasNoneBefore picture givens allowance kind row col
-      → HasNoneBefore picture givens allowance kind row (col + 1)
-  further kind row col here none r c b g = elim (before_next r c row col b) [
+module _ (picture : Rows) (givens : List ℕ) where
+  -- one place further, where the given there is needed
+  further : (row col : ℕ) → (HasCell givens row col → IsNeededAt picture givens row col) → AreNeededBefore picture givens row col → AreNeededBefore picture givens row (col + 1)
+  further row col here none r c b g = elim (before_next r c row col b) [
     | inl earlier ↦ none r c earlier g
     | inr same ↦
-        let P : ℕ → ℕ → Type 0 = λ x y. HasWithout picture givens allowance kind false x y in
+        let P : ℕ → ℕ → Type 0 = λ x y. IsNeededAt picture givens x y in
         let h = here (subst (λ (x : ℕ). HasCell givens x col) same.0 (subst (λ (y : ℕ). HasCell givens r y) same.1 g)) in
         subst (λ (x : ℕ). P x c) (sym same.0) (subst (λ (y : ℕ). P row y) (sym same.1) h)
   ]
@@ -96,84 +207,39 @@ module _ (picture : Rows) (givens : List ℕ) (allowance : Option ℕ) where
   not_itself row col (inl l) = absurd (omega arith)
   not_itself row col (inr (e, l)) = absurd (omega arith)
 
-  pub skipped : (waiting : List ℕ) (spare : Spare) (row col before now : ℕ) → Tried picture givens allowance waiting spare row col before now → (HasCell waiting row col → ⊥)
-      → Tried picture givens allowance waiting spare row (col + 1) before now
-  skipped waiting spare row col before now t n = record {
-    so_far = moved spare row col row (col + 1) (λ kind. further kind row col (λ g. absurd (n (t.waits row col g (not_itself row col))))) t.so_far;
+  pub skipped : (waiting : List ℕ) (row col before now : ℕ) → Tried picture givens waiting row col before now → (HasCell waiting row col → ⊥)
+      → Tried picture givens waiting row (col + 1) before now
+  skipped waiting row col before now t n = record {
+    so_far = further row col (λ g. absurd (n (t.waits row col g (not_itself row col)))) t.so_far;
     waits = λ r c g b. t.waits r c g (still_waits row col r c b);
     are = t.are;
     few = t.few;
   }
 
-  abbrev place : ℕ → ℕ → Cell
-  place row col = record { row = row; col = col }
-
-  -- what is known after the verdict without the given at a place
-  known_then : (spare : Spare) (verdict : Verdict) (row col : ℕ) → HasCell givens row col → IsWithout picture givens allowance row col verdict
-      → is_given (spare_after spare verdict (place row col)) ≡ false → IsSpareBefore picture givens allowance row col spare
-      → IsSpareBefore picture givens allowance row (col + 1) (spare_after spare verdict (place row col))
-  known_then spare Unique row col g w is_false s = absurd (false≢true (sym is_false))
-  known_then Nothing (Ambiguous other) row col g w is_false s =
-      (further is_unique row col (λ _. (Ambiguous other, (w, refl))) s.0, further is_undecided row col (λ _. (Ambiguous other, (w, refl))) s.1)
-  known_then (Given first) (Ambiguous other) row col g w is_false s = absurd s
-  known_then (Unnamed first) (Ambiguous other) row col g w is_false s = absurd s
-  known_then (Unknown first) (Ambiguous other) row col g w is_false s = (further is_unique row col (λ _. (Ambiguous other, (w, refl))) s.0, s.1)
-  known_then Nothing Undecided row col g w is_false s =
-      (further is_unique row col (λ _. (Undecided, (w, refl))) s.0, record { given = g; here = (Undecided, (w, refl)); before = s.1 })
-  known_then (Given first) Undecided row col g w is_false s = absurd s
-  known_then (Unnamed first) Undecided row col g w is_false s = absurd s
-  known_then (Unknown first) Undecided row col g w is_false s = (further is_unique row col (λ _. (Undecided, (w, refl))) s.0, s.1)
-
-  found_then : (spare : Spare) (verdict : Verdict) (row col : ℕ) → HasCell givens row col → IsWithout picture givens allowance row col verdict
-      → is_given (spare_after spare verdict (place row col)) ≡ true → IsSpareBefore picture givens allowance row col spare
-      → IsSpare picture givens allowance (spare_after spare verdict (place row col))
-  found_then spare Unique row col g w is_true s = record { given = g; here = (Unique, (w, refl)); before = none_unique spare row col s }
-  found_then Nothing (Ambiguous other) row col g w is_true s = absurd (false≢true is_true)
-  found_then (Given first) (Ambiguous other) row col g w is_true s = absurd s
-  found_then (Unnamed first) (Ambiguous other) row col g w is_true s = absurd s
-  found_then (Unknown first) (Ambiguous other) row col g w is_true s = absurd (false≢true is_true)
-  found_then Nothing Undecided row col g w is_true s = absurd (false≢true is_true)
-  found_then (Given first) Undecided row col g w is_true s = absurd s
-  found_then (Unnamed first) Undecided row col g w is_true s = absurd s
-  found_then (Unknown first) Undecided row col g w is_true s = absurd (false≢true is_true)
-
-  pub one_more : (waiting rest : List ℕ) (spare next : Spare) (verdict : Verdict) (row col before now later : ℕ)
-      → Tried picture givens allowance waiting spare row col before now → HasCell waiting row col
-      → TakesOutCell waiting rest row col → cell_count rest + 1 ≡ cell_count waiting → IsWithout picture givens allowance row col verdict → AreFewJudged picture allowance 1 now later
-      → next ≡ spare_after spare verdict (place row col) → is_given next ≡ false → Tried picture givens allowance rest next row (col + 1) before later
-  one_more waiting rest spare next verdict row col before now later t h takes count w one e is_false = record {
-    so_far = subst (IsSpareBefore picture givens allowance row (col + 1)) (sym e) (known_then spare verdict row col (t.are row col h) w (sym (ap is_given e) ∙ is_false) t.so_far);
+  pub one_more : (waiting rest : List ℕ) (row col before now later : ℕ) → Tried picture givens waiting row col before now → TakesOutCell waiting rest row col
+      → cell_count rest + 1 ≡ cell_count waiting → IsNeededAt picture givens row col → later ≤ now + most_to_close picture → Tried picture givens rest row (col + 1) before later
+  one_more waiting rest row col before now later t takes count needed one = record {
+    so_far = further row col (λ g. needed) t.so_far;
     waits = λ r c g b. (takes r c).1 (t.waits r c g (still_waits row col r c b), (λ same. b (inr (same.0, (let l : c < col + 1 = (let x = same.1 in omega arith) in l)))));
     are = λ r c x. t.are r c ((takes r c).0 x).0;
-    few = tried_more picture allowance (cell_count givens) (cell_count waiting) (cell_count rest) before now later count t.few one;
+    few = one_less (most_to_close picture) (cell_count waiting) (cell_count rest) (cell_count givens) before now later count t.few one;
   }
 
-  pub given_found : (waiting : List ℕ) (spare next : Spare) (verdict : Verdict) (row col before now : ℕ) → Tried picture givens allowance waiting spare row col before now → HasCell waiting row col
-      → IsWithout picture givens allowance row col verdict → next ≡ spare_after spare verdict (place row col) → is_given next ≡ true → IsSpare picture givens allowance next
-  given_found waiting spare next verdict row col before now t h w e is_true =
-      subst (IsSpare picture givens allowance) (sym e) (found_then spare verdict row col (t.are row col h) w (sym (ap is_given e) ∙ is_true) t.so_far)
-
-  pub none_tried : (calls : ℕ) → Tried picture givens allowance givens Nothing 0 0 calls calls
+  pub none_tried : (calls : ℕ) → Tried picture givens givens 0 0 calls calls
   none_tried calls = record {
-    so_far = ((λ r c b. absurd (none_before r c b)), (λ r c b. absurd (none_before r c b)));
+    so_far = λ r c b. absurd (none_before r c b);
     waits = λ r c g b. g;
     are = λ r c g. g;
-    few = tried_none picture allowance (cell_count givens) calls;
+    few = omega arith;
   }
 
-  pub all_tried : (spare : Spare) (row : ℕ) → AreInside givens picture → length picture ≤ row → IsSpareBefore picture givens allowance row 0 spare → IsSpare picture givens allowance spare
-  all_tried Nothing row inside l s = (none_left is_unique s.0, none_left is_undecided s.1)
-    where
-      none_left : (kind : Verdict → Bool) → HasNoneBefore picture givens allowance kind row 0 → HasNone picture givens allowance kind
-      none_left kind none r c g = none r c (inl (let i = (inside r c g).0 in let m : r < row = omega arith in m)) g
-  all_tried (Given cell) row inside l s = absurd s
-  all_tried (Unnamed cell) row inside l s = absurd s
-  all_tried (Unknown cell) row inside l s = ((λ r c g. s.0 r c (inl (let i = (inside r c g).0 in let m : r < row = omega arith in m)) g), s.1)
+  pub all_tried : (row : ℕ) → AreInside givens picture → length picture ≤ row → AreNeededBefore picture givens row 0 → IsSpare picture givens None
+  all_tried row inside l none r c g = none r c (inl (let i = (inside r c g).0 in let m : r < row = omega arith in m)) g
 
-  pub next_row : (waiting : List ℕ) (spare : Spare) (row col before now : ℕ) → AreInside givens picture → width_of picture ≤ col → Tried picture givens allowance waiting spare row col before now
-      → Tried picture givens allowance waiting spare (row + 1) 0 before now
-  next_row waiting spare row col before now inside w t = record {
-    so_far = moved spare row col (row + 1) 0 (λ kind none r c b g. none r c (row_ended picture givens row col r c inside w b g) g) t.so_far;
+  pub next_row : (waiting : List ℕ) (row col before now : ℕ) → AreInside givens picture → width_of picture ≤ col → Tried picture givens waiting row col before now
+      → Tried picture givens waiting (row + 1) 0 before now
+  next_row waiting row col before now inside w t = record {
+    so_far = λ r c b g. t.so_far r c (row_ended picture givens row col r c inside w b g) g;
     waits = λ r c g b. t.waits r c g (λ e. b (up r c e));
     are = t.are;
     few = t.few;

@@ -17,15 +17,6 @@ abbrev pub AreFewInParts : Rows → Option ℕ → ℕ → ℕ → Type 0
 AreFewInParts picture None before after = Unit {0}
 AreFewInParts picture (Some splits) before after = after ≤ before + most_in_parts picture splits
 
--- a verdict closes the facts of the givens, and searches the parts
-unfoldable pub most_to_judge : Rows → ℕ → ℕ
-most_to_judge picture splits = most_to_close picture + most_in_parts picture splits
-
--- at most so many verdicts
-abbrev pub AreFewJudged : Rows → Option ℕ → ℕ → ℕ → ℕ → Type 0
-AreFewJudged picture None verdicts before after = Unit {0}
-AreFewJudged picture (Some splits) verdicts before after = after ≤ before + verdicts * most_to_judge picture splits
-
 -- two trees within the bound, and a look at each line of a certificate
 unfoldable pub most_in_trees : Rows → ℕ
 most_in_trees picture = 2 * most_in_tree picture GRADE_EVALUATIONS
@@ -33,16 +24,20 @@ most_in_trees picture = 2 * most_in_tree picture GRADE_EVALUATIONS
 unfoldable pub most_to_grade : Rows → ℕ
 most_to_grade picture = most_in_trees picture + GRADE_LINES
 
+-- a grade, and the facts of the givens closed without each given
+unfoldable pub most_besides : Rows → List ℕ → ℕ
+most_besides picture givens = most_to_grade picture + cell_count givens * most_to_close picture
+
 -- no look, or those of line logic on the puzzle
 abbrev pub AreLooksIfAny : Rows → List ℕ → List Look → Type 0
 AreLooksIfAny picture givens looks = (looks ≡ []) ⊎ ((end : Masks) × AreLooks picture givens looks end)
 
--- the looks of line logic, a verdict, a grade, and a verdict without each given
+-- the looks of line logic, the search of the parts, a grade, and line logic without each given
 abbrev pub AreFewInAll : Rows → List ℕ → Option ℕ → ℕ → ℕ → Type 0
 AreFewInAll picture givens allowance before after = (looks : List Look) × (AreLooksIfAny picture givens looks
-    × AreFewJudged picture allowance (1 + cell_count givens) (before + (length looks + most_to_grade picture)) after)
+    × AreFewInParts picture allowance (before + (length looks + most_besides picture givens)) after)
 
--- by a certificate: each of its lines once for the check and once for the grade, and the looks of line logic
+-- by a certificate: each of its lines once, in place of the search
 abbrev pub AreFewBy : Rows → List ℕ → Certificate → ℕ → ℕ → Type 0
 AreFewBy picture givens cert before after = (looks : List Look) × (AreLooksIfAny picture givens looks
-    × (after ≤ before + (length looks + 2 * length cert.lines)))
+    × (after ≤ before + (length cert.lines + (length looks + most_besides picture givens))))

@@ -21,7 +21,7 @@ grade_of figures splits depth =
 pub record IsGradeBy (picture : Rows) (cert : Certificate) (figures : Figures) (grade : Grade) : Type 0 where
   pub guesses : Guesses
   pub settled : figures.«open» ≡ 0 → (guesses.splits ≡ 0) × (guesses.depth ≡ 0)
-  pub guessed : (figures.«open» ≡ 0 → ⊥) → HasGuesses picture cert cert.form guesses
+  pub guessed : (figures.«open» ≡ 0 → ⊥) → HasGuesses picture cert guesses
   pub grade_is : grade ≡ grade_of figures guesses.splits guesses.depth
 
 -- a certificate with exactly the givens that the checker accepts, of a bounded number of lines

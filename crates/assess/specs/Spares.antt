@@ -1,92 +1,74 @@
 -- The first given, row by row, that a puzzle does not need.
-use Rattle.std.specs.Prelude.{◌≡◌, ◌⊎◌, ℕ, ◌<◌, Bool, true, false, List, Option}
+use Rattle.std.specs.Prelude.{◌≡◌, ◌⊎◌, ◌↔◌, ℕ, ◌<◌, Bool, true, false, List, Option, None, Some}
+use Rattle.line_facts.specs.Masks.{IsOnly, Masks}
 use Rattle.picture.specs.CellSet.{HasCell, TakesOutCell}
-use Rattle.picture.specs.Rows.{Rows}
+use Rattle.picture.specs.Rows.{Rows, cell_at}
+use Rattle.clues.specs.ClueBook.{clues_of}
+use Rattle.clues.specs.Solution.{IsOnlySolution}
+use Rattle.second_search.specs.Parts.{IsOpenCell}
 use Rattle.trail.specs.declared.cell.Cell.{Cell}
-use Rattle.assess.specs.declared.assessment.Spare.{Spare}
-use Rattle.assess.specs.declared.assessment.Spare.TheVariants.{Nothing, Given, Unknown, Unnamed}
-use Rattle.assess.specs.declared.assessment.Verdict.{Verdict}
-use Rattle.assess.specs.declared.assessment.Verdict.TheVariants.{Unique, Ambiguous, Undecided}
-use Rattle.assess.specs.Judging.{IsVerdict}
+use Rattle.assess.specs.Settling.{IsMap}
 
-abbrev pub is_unique : Verdict → Bool
-is_unique Unique = true
-is_unique (Ambiguous other) = false
-is_unique Undecided = false
-
-abbrev pub is_undecided : Verdict → Bool
-is_undecided Unique = false
-is_undecided (Ambiguous other) = false
-is_undecided Undecided = true
-
--- some given is not needed
-abbrev pub is_given : Spare → Bool
-is_given Nothing = false
-is_given (Given cell) = true
-is_given (Unknown cell) = false
-is_given (Unnamed cell) = true
-
--- the verdict of the puzzle without a given
-pub record IsWithout (picture : Rows) (givens : List ℕ) (allowance : Option ℕ) (row col : ℕ) (verdict : Verdict)
-    : Type 0 where
+-- a puzzle without one of its givens, with its map, and the map with that given
+pub record Without (picture : Rows) (givens : List ℕ) (row col : ℕ) : Type 0 where
   pub others : List ℕ
   pub left_out : TakesOutCell givens others row col
-  pub is_verdict : IsVerdict picture others allowance verdict
+  pub map_with : Masks
+  pub is_map_with : IsMap picture givens map_with
+  pub map_without : Masks
+  pub is_map_without : IsMap picture others map_without
 
--- without a given the verdict is of a kind, or is not
-abbrev pub HasWithout : Rows → List ℕ → Option ℕ → (Verdict → Bool) → Bool → ℕ → ℕ → Type 0
-HasWithout picture givens allowance kind is row col =
-    (verdict : Verdict) × (IsWithout picture givens allowance row col verdict × (kind verdict ≡ is))
+-- line logic leaves the same cells open
+abbrev pub LeavesSameOpen : Masks → Masks → Type 0
+LeavesSameOpen one other = (row col : ℕ) → IsOpenCell one row col ↔ IsOpenCell other row col
+
+-- without the given there is still one solution, and line logic leaves the same cells open
+abbrev pub AddsNothing : (picture : Rows) (givens : List ℕ) (row col : ℕ) → Without picture givens row col → Type 0
+AddsNothing picture givens row col w = IsOnlySolution (clues_of picture) (HasCell w.others) picture
+    × LeavesSameOpen w.map_with w.map_without
+
+-- a given that is not needed
+pub record IsSpareAt (picture : Rows) (givens : List ℕ) (row col : ℕ) : Type 0 where
+  pub given : HasCell givens row col
+  pub without : Without picture givens row col
+  pub adds_nothing : AddsNothing picture givens row col without
+
+-- a given without which there is another solution, or line logic leaves other cells open
+pub record IsNeededAt (picture : Rows) (givens : List ℕ) (row col : ℕ) : Type 0 where
+  pub without : Without picture givens row col
+  pub adds_some : AddsNothing picture givens row col without → ⊥
 
 -- one cell comes before another, row by row
 abbrev pub ComesBefore : ℕ → ℕ → ℕ → ℕ → Type 0
 ComesBefore r c row col = (r < row) ⊎ ((r ≡ row) × (c < col))
 
--- without none of the givens before a cell is the verdict of a kind
-abbrev pub HasNoneBefore : Rows → List ℕ → Option ℕ → (Verdict → Bool) → ℕ → ℕ → Type 0
-HasNoneBefore picture givens allowance kind row col = (r c : ℕ) → ComesBefore r c row col → HasCell givens r c
-    → HasWithout picture givens allowance kind false r c
+-- each given before a cell is needed
+abbrev pub AreNeededBefore : Rows → List ℕ → ℕ → ℕ → Type 0
+AreNeededBefore picture givens row col = (r c : ℕ) → ComesBefore r c row col → HasCell givens r c
+    → IsNeededAt picture givens r c
 
--- the first given without which the verdict is of a kind
-pub record IsFirst (picture : Rows) (givens : List ℕ) (allowance : Option ℕ) (kind : Verdict → Bool) (row col : ℕ)
-    : Type 0 where
-  pub given : HasCell givens row col
-  pub here : HasWithout picture givens allowance kind true row col
-  pub before : HasNoneBefore picture givens allowance kind row col
+-- The first given without which there is still one solution and line logic leaves the same cells open; or each given is
+-- needed.
+abbrev pub IsSpare : Rows → List ℕ → Option Cell → Type 0
+IsSpare picture givens (Some cell) =
+    IsSpareAt picture givens cell.row cell.col × AreNeededBefore picture givens cell.row cell.col
+IsSpare picture givens None = (row col : ℕ) → HasCell givens row col → IsNeededAt picture givens row col
 
--- without none of the givens is the verdict of a kind
-abbrev pub HasNone : Rows → List ℕ → Option ℕ → (Verdict → Bool) → Type 0
-HasNone picture givens allowance kind = (row col : ℕ) → HasCell givens row col
-    → HasWithout picture givens allowance kind false row col
+-- ---- how it is found
 
--- The first given without which there is still one solution; or if there is none such, the first for which the
--- allowance leaves this open.
-abbrev pub IsSpare : Rows → List ℕ → Option ℕ → Spare → Type 0
-IsSpare picture givens allowance (Given cell) = IsFirst picture givens allowance is_unique cell.row cell.col
-IsSpare picture givens allowance (Unknown cell) =
-    HasNone picture givens allowance is_unique × IsFirst picture givens allowance is_undecided cell.row cell.col
-IsSpare picture givens allowance (Unnamed cell) = ⊥
-IsSpare picture givens allowance Nothing =
-    HasNone picture givens allowance is_unique × HasNone picture givens allowance is_undecided
+-- the puzzle has a map, as each has
+abbrev pub HasMap : Rows → List ℕ → Type 0
+HasMap picture givens = (map : Masks) × IsMap picture givens map
 
--- what is known of the givens before a cell, without none of which there is one solution: the first for which the
--- allowance leaves this open, or nothing
-abbrev pub IsSpareBefore : Rows → List ℕ → Option ℕ → ℕ → ℕ → Spare → Type 0
-IsSpareBefore picture givens allowance row col (Given cell) = ⊥
-IsSpareBefore picture givens allowance row col (Unnamed cell) = ⊥
-IsSpareBefore picture givens allowance row col (Unknown cell) = HasNoneBefore picture givens allowance is_unique row col
-    × IsFirst picture givens allowance is_undecided cell.row cell.col
-IsSpareBefore picture givens allowance row col Nothing = HasNoneBefore picture givens allowance is_unique row col
-    × HasNoneBefore picture givens allowance is_undecided row col
+-- just one colour is left, or not
+abbrev pub IsSettledIf : Bool → ℕ → Type 0
+IsSettledIf true mask = (k : ℕ) × IsOnly mask k
+IsSettledIf false mask = (k : ℕ) → IsOnly mask k → ⊥
 
--- what is known after the verdict without one more given
-abbrev pub or_unknown : Spare → Cell → Spare
-or_unknown Nothing cell = Unknown cell
-or_unknown (Given first) cell = Given first
-or_unknown (Unknown first) cell = Unknown first
-or_unknown (Unnamed first) cell = Unnamed first
-
-abbrev pub spare_after : Spare → Verdict → Cell → Spare
-spare_after spare Unique cell = Given cell
-spare_after spare (Ambiguous other) cell = spare
-spare_after spare Undecided cell = or_unknown spare cell
+-- whether line logic settles the cell of a given without it
+pub record SettlesWithout (picture : Rows) (givens : List ℕ) (row col : ℕ) (settled : Bool) : Type 0 where
+  pub others : List ℕ
+  pub left_out : TakesOutCell givens others row col
+  pub map : Masks
+  pub is_map : IsMap picture others map
+  pub settled_if : IsSettledIf settled (cell_at map row col)

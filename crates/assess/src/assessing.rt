@@ -1,37 +1,34 @@
 //! A puzzle assessed.
 
-ghost use Rattle.std.specs.Prelude.{◌≡◌, ◌&&◌, ◌≤◌, IfOk, MatchResult, not};
-ghost use Rattle.flaws.specs.Cells.{has_colour};
+ghost use Rattle.std.specs.Prelude.{◌≡◌, ◌≤◌, IfOk, MatchResult};
 ghost use Rattle.assess.specs.Assessed.{IsAssessment, IsDescribed, colour_count};
 ghost use Rattle.assess.specs.AssessedBy.{IsAssessmentBy, IsRefused};
 ghost use Rattle.assess.specs.Calls.{AreFewBy, AreFewInAll};
 ghost use Rattle.assess.specs.Looked.{IsLooked};
 
-use crate::assessment::{Assessment, Spare, Verdict};
-use crate::grading::{Graded, grade_by, grade_if};
+use crate::assessment::{Assessment, Verdict};
+use crate::grading::{Graded, grade, grade_if};
 use crate::judging::judge_map;
 use crate::looking::{Looked, look};
-use crate::naming::find_unnamed;
-use crate::spare::find_spare_if;
+use crate::spare::{find_spare, find_spare_if};
 use cert_check::check_published;
 use cert_text::{Cert, CertFault};
 use flaws::{has_colour, is_painted};
 use line_facts::LineEngine;
 use picture::{Document, MAX_COLOURS, MAX_SIDE, Picture};
 use std::alloc::{AllocError, Global};
+use trail::Cell;
 
-/// Assesses a document: whether it is fit to be published. `is_named` says whether its background was named, and `allowance` how
-/// many splits the search of a part may make in each verdict. The engine must take lines of `MAX_SIDE` cells. If memory runs out,
-/// nothing was changed but the engine's count of calls.
+/// Assesses a document: whether it is fit to be published. The allowance says how many splits the search of a part may make. The
+/// engine must take lines of `MAX_SIDE` cells. If memory runs out, nothing was changed but the engine's count of calls.
 pub fn assess<E: LineEngine>(
     alloc: Global,
     engine: &mut E,
     document: &Document,
-    is_named: bool,
     allowance: Option<u32>,
 ) -> Result<Assessment, AllocError>
     requires { MAX_SIDE ≤ E.longest engine.old }
-    ensures assessment { IfOk result (IsAssessment document.now is_named allowance) }
+    ensures assessment { IfOk result (IsAssessment document.now allowance) }
     ensures few { AreFewInAll document.now.picture document.now.givens allowance
         (E.calls engine.old) (E.calls engine.new) }
     ensures calls { E.calls engine.old ≤ E.calls engine.new }
@@ -48,24 +45,23 @@ pub fn assess<E: LineEngine>(
         allowance,
     )?;
     let graded = grade_if(alloc, engine, document, looked.figures, &verdict)?;
-    let spare = find_spare_if(alloc, engine, document, &looked.book, allowance, &verdict)?;
-    Ok(described(document, is_named, looked, verdict, graded, spare))
+    let spare = find_spare_if(alloc, engine, document, &looked.book, &verdict)?;
+    Ok(described(document, looked, verdict, graded, spare))
 }
 
-/// Assesses a document by a certificate that proves that it has one solution where its givens are published: nothing is searched.
-/// Where the checker refuses the certificate, its error is the answer. The grade is that of the certificate, and the first given,
-/// row by row, that it does not name is not needed. The engine must take lines of `MAX_SIDE` cells.
+/// Assesses a document by a certificate that proves that it has one solution where its givens are published. The certificate takes
+/// the place of the search for another solution, and of nothing else. Where the checker refuses it, its error is the answer. The
+/// engine must take lines of `MAX_SIDE` cells.
 pub fn assess_by<E: LineEngine>(
     alloc: Global,
     engine: &mut E,
     document: &Document,
-    is_named: bool,
     cert: &Cert,
 ) -> Result<Assessment, CertFault>
     requires { MAX_SIDE ≤ E.longest engine.old }
     ensures assessment { MatchResult
         result
-        (IsAssessmentBy document.now is_named cert.now)
+        (IsAssessmentBy document.now cert.now)
         (IsRefused document.now cert.now) }
     ensures few { AreFewBy document.now.picture document.now.givens cert.now
         (E.calls engine.old) (E.calls engine.new) }
@@ -74,26 +70,21 @@ pub fn assess_by<E: LineEngine>(
     let _ = (engine.calls(), document.picture.height());
     check_published(alloc, engine, &document.picture, cert, &document.givens)?;
     let looked = look(alloc, engine, document)?;
-    let grade = grade_by(alloc, engine, document, looked.figures, cert)?;
-    let graded = Graded {
-        grade: Some(grade),
-        cert: None,
-    };
-    let spare = find_unnamed(document, cert.givens());
-    Ok(described(document, is_named, looked, Verdict::Unique, graded, spare))
+    let graded = grade(alloc, engine, document, looked.figures)?;
+    let spare = find_spare(alloc, engine, document, &looked.book)?;
+    Ok(described(document, looked, Verdict::Unique, graded, spare))
 }
 
 // The assessment with what was found of a document.
 fn described(
     document: &Document,
-    is_named: bool,
     looked: Looked,
     verdict: Verdict,
     graded: Graded,
-    spare: Spare,
+    spare: Option<Cell>,
 ) -> Assessment
     requires { IsLooked document.now looked }
-    ensures described { IsDescribed document.now is_named result }
+    ensures described { IsDescribed document.now result }
     ensures verdict { result.verdict ≡ verdict }
     ensures figures { result.figures ≡ looked.figures }
     ensures grade { result.grade ≡ graded.grade }
@@ -111,17 +102,10 @@ fn described(
         grade: graded.grade,
         cert: graded.cert,
         is_blank: !is_painted(picture),
-        lacks_background: lacks_background(picture, is_named),
+        lacks_background: !has_colour(picture, 0),
         spare,
         alike: looked.alike,
     }
-}
-
-// Whether a background was named, and no cell has it.
-fn lacks_background(picture: &Picture, is_named: bool) -> bool
-    ensures { result ≡ (is_named && not (has_colour 0 picture.now)) }
-{
-    is_named && !has_colour(picture, 0)
 }
 
 // How many colours cells have.

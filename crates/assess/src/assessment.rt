@@ -1,8 +1,7 @@
 //! What is found of a puzzle.
 
 ghost use Rattle.std.specs.Prelude.{◌≡◌};
-ghost use Rattle.assess.specs.Assessed.{has_flaw, is_fit};
-ghost use Rattle.assess.specs.Spares.{is_given, is_unique};
+ghost use Rattle.assess.specs.Assessed.{has_flaw, is_fit, is_unique};
 
 use cert_text::Cert;
 use flaws::Alike;
@@ -27,26 +26,6 @@ impl Verdict {
     }
 }
 
-/// Whether a given can be left out: the first, row by row, without which there is still one solution. If there is none such, the
-/// first for which the allowance leaves this open. By a certificate: the first that it does not name.
-#[derive(Clone, Copy, Debug, PartialEq, Eq)]
-pub enum Spare {
-    /// Each given is needed.
-    Nothing,
-    Given(Cell),
-    Unknown(Cell),
-    Unnamed(Cell),
-}
-
-impl Spare {
-    /// Whether some given is not needed.
-    pub fn is_given(self) -> bool
-        ensures { result ≡ is_given self }
-    {
-        matches!(self, Spare::Given(_) | Spare::Unnamed(_))
-    }
-}
-
 /// What is found of a puzzle: its verdict, its size, colours and givens, the figures of line logic, its grade, and its flaws.
 #[derive(Drop)]
 pub struct Assessment {
@@ -64,10 +43,11 @@ pub struct Assessment {
     pub cert: Option<Cert>,
     /// No cell has another colour than the background.
     pub is_blank: bool,
-    /// A background was named, and no cell has it.
+    /// No cell has the background.
     pub lacks_background: bool,
-    /// Looked for where the puzzle is unique.
-    pub spare: Spare,
+    /// Of a unique puzzle: the first given, row by row, that is not needed. Without it there is still one solution, and line logic
+    /// leaves the same cells open.
+    pub spare: Option<Cell>,
     /// The colours that look alike.
     pub alike: Vec<Alike>,
 }
@@ -80,10 +60,10 @@ impl Assessment {
         self.verdict.is_unique() && !self.has_flaw()
     }
 
-    /// Whether the puzzle is blank, its named background is on no cell, a given is not needed, or colours look alike.
+    /// Whether the puzzle is blank, no cell has the background, a given is not needed, or colours look alike.
     pub fn has_flaw(&self) -> bool
         ensures { result ≡ has_flaw self.now }
     {
-        self.is_blank || self.lacks_background || self.spare.is_given() || !self.alike.is_empty()
+        self.is_blank || self.lacks_background || self.spare.is_some() || !self.alike.is_empty()
     }
 }

@@ -59,9 +59,9 @@ fn no_grade() -> Graded
     }
 }
 
-// The grade with these figures: without a certificate where no cell is open, else by one that is made within the bounds, if one
-// is.
-fn grade<E: LineEngine>(
+/// The grade of a unique puzzle with these figures: without a certificate where no cell is open, else by one that is made within
+/// the bounds, if one is.
+pub(crate) fn grade<E: LineEngine>(
     alloc: Global,
     engine: &mut E,
     document: &Document,
@@ -120,8 +120,8 @@ fn if_short(found: Option<Cert>) -> Option<Cert>
     }
 }
 
-/// The grade by a certificate of a puzzle with these figures. Where no cell is open, there are no splits.
-pub(crate) fn grade_by<E: LineEngine>(
+// The grade by a certificate of a puzzle with these figures. Where no cell is open, there are no splits.
+fn grade_by<E: LineEngine>(
     alloc: Global,
     engine: &mut E,
     document: &Document,

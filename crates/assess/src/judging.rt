@@ -1,9 +1,9 @@
-//! The verdict of a puzzle, of whose parts nothing is known.
+//! The map of a puzzle, and its verdict where nothing is known of the parts.
 
 ghost use Rattle.std.specs.Prelude.{◌≡◌, ◌+◌, ◌≤◌, IfOk};
 ghost use Rattle.clues.specs.ClueBook.{clues_of};
 ghost use Rattle.second_search.specs.Evaluations.{most_to_close};
-ghost use Rattle.assess.specs.Calls.{AreFewInParts, AreFewJudged};
+ghost use Rattle.assess.specs.Calls.{AreFewInParts};
 ghost use Rattle.assess.specs.Judging.{IsVerdict, verdict_of};
 ghost use Rattle.assess.specs.Settling.{IsMap};
 
@@ -67,30 +67,8 @@ fn verdict_of(judged: &Judged<'_>) -> Result<Verdict, AllocError>
     }
 }
 
-/// Judges a puzzle afresh, and keeps nothing of what was found.
-pub(crate) fn judge_afresh<E: LineEngine>(
-    alloc: Global,
-    engine: &mut E,
-    document: &Document,
-    book: &ClueBook,
-    allowance: Option<u32>,
-) -> Result<Verdict, AllocError>
-    requires book { book.now ≡ clues_of document.now.picture }
-    requires long { MAX_SIDE ≤ E.longest engine.old }
-    ensures verdict { IfOk result
-        (IsVerdict document.now.picture document.now.givens allowance) }
-    ensures few { AreFewJudged document.now.picture allowance 1 (E.calls engine.old)
-        (E.calls engine.new) }
-    ensures calls { E.calls engine.old ≤ E.calls engine.new }
-    ensures same_longest { E.longest engine.new ≡ E.longest engine.old }
-{
-    let _ = engine.calls();
-    let map = settled(alloc, engine, document, book)?;
-    judge_map(alloc, engine, document, book, &map, allowance)
-}
-
-// The map of a puzzle.
-fn settled<E: LineEngine>(
+/// The map of a puzzle.
+pub(crate) fn settled<E: LineEngine>(
     alloc: Global,
     engine: &mut E,
     document: &Document,

@@ -6,9 +6,8 @@ mod assessment;
 mod grading;
 mod judging;
 mod looking;
-mod naming;
 mod spare;
 
 pub use assessing::{assess, assess_by};
-pub use assessment::{Assessment, Spare, Verdict};
+pub use assessment::{Assessment, Verdict};
 pub use grading::{GRADE_EVALUATIONS, GRADE_LINES};

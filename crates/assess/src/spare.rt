@@ -1,15 +1,16 @@
 //! The first given that a puzzle does not need.
 
-ghost use Rattle.std.specs.Prelude.{◌≡◌, ◌<◌, ◌≤◌, length, IfOk};
-ghost use Rattle.picture.specs.CellSet.{cell_count};
+ghost use Rattle.std.specs.Prelude.{◌≡◌, ◌+◌, ◌*◌, ◌<◌, ◌≤◌, length, IfOk};
+ghost use Rattle.picture.specs.CellSet.{HasCell, cell_count};
 ghost use Rattle.picture.specs.Rows.{width_of};
 ghost use Rattle.clues.specs.ClueBook.{clues_of};
+ghost use Rattle.clues.specs.Solution.{IsOnlySolution};
+ghost use Rattle.second_search.specs.Evaluations.{most_to_close};
 ghost use Rattle.assess.specs.Assessed.{IsSpareIf};
-ghost use Rattle.assess.specs.Calls.{AreFewJudged};
-ghost use Rattle.assess.specs.Spares.{IsSpare, IsWithout, spare_after};
+ghost use Rattle.assess.specs.Spares.{HasMap, IsSpare, SettlesWithout};
 
-use crate::assessment::{Spare, Verdict};
-use crate::judging::judge_afresh;
+use crate::assessment::Verdict;
+use crate::judging::settled;
 use clues::ClueBook;
 use line_facts::LineEngine;
 use picture::{Document, MAX_SIDE};
@@ -22,38 +23,43 @@ pub(crate) fn find_spare_if<E: LineEngine>(
     engine: &mut E,
     document: &Document,
     book: &ClueBook,
-    allowance: Option<u32>,
     verdict: &Verdict,
-) -> Result<Spare, AllocError>
+) -> Result<Option<Cell>, AllocError>
     requires book { book.now ≡ clues_of document.now.picture }
+    requires only { verdict.now ≡ Verdict.Unique → IsOnlySolution (clues_of document.now.picture)
+        (HasCell document.now.givens) document.now.picture }
+    requires mapped { HasMap document.now.picture document.now.givens }
     requires long { MAX_SIDE ≤ E.longest engine.old }
     ensures spare { IfOk result
-        (IsSpareIf document.now.picture document.now.givens allowance verdict.now) }
-    ensures few { AreFewJudged document.now.picture allowance (cell_count document.now.givens)
-        (E.calls engine.old) (E.calls engine.new) }
+        (IsSpareIf document.now.picture document.now.givens verdict.now) }
+    ensures few { E.calls engine.new ≤ E.calls engine.old
+        + cell_count document.now.givens * most_to_close document.now.picture }
     ensures calls { E.calls engine.old ≤ E.calls engine.new }
     ensures same_longest { E.longest engine.new ≡ E.longest engine.old }
 {
     match verdict {
-        Verdict::Unique => find_spare(alloc, engine, document, book, allowance),
-        Verdict::Ambiguous(_) => Ok(Spare::Nothing),
-        Verdict::Undecided => Ok(Spare::Nothing),
+        Verdict::Unique => find_spare(alloc, engine, document, book),
+        Verdict::Ambiguous(_) => Ok(None),
+        Verdict::Undecided => Ok(None),
     }
 }
 
-// Looks for a given without which there is still one solution. The verdicts have the same allowance.
-fn find_spare<E: LineEngine>(
+/// Looks for a given that is not needed: without it there is still one solution, and line logic leaves the same cells open. That is
+/// so where lines settle its cell without it.
+pub(crate) fn find_spare<E: LineEngine>(
     alloc: Global,
     engine: &mut E,
     document: &Document,
     book: &ClueBook,
-    allowance: Option<u32>,
-) -> Result<Spare, AllocError>
+) -> Result<Option<Cell>, AllocError>
     requires book { book.now ≡ clues_of document.now.picture }
+    requires only { IsOnlySolution (clues_of document.now.picture)
+        (HasCell document.now.givens) document.now.picture }
+    requires mapped { HasMap document.now.picture document.now.givens }
     requires long { MAX_SIDE ≤ E.longest engine.old }
-    ensures spare { IfOk result (IsSpare document.now.picture document.now.givens allowance) }
-    ensures few { AreFewJudged document.now.picture allowance (cell_count document.now.givens)
-        (E.calls engine.old) (E.calls engine.new) }
+    ensures spare { IfOk result (IsSpare document.now.picture document.now.givens) }
+    ensures few { E.calls engine.new ≤ E.calls engine.old
+        + cell_count document.now.givens * most_to_close document.now.picture }
     ensures calls { E.calls engine.old ≤ E.calls engine.new }
     ensures same_longest { E.longest engine.new ≡ E.longest engine.old }
 {
@@ -62,7 +68,6 @@ fn find_spare<E: LineEngine>(
         document.picture.height(),
         document.givens.len(),
     );
-    let mut spare = Spare::Nothing;
     // the givens that were not yet left out
     let mut waiting = document.givens;
     for row in 0..document.picture.height() {
@@ -72,49 +77,37 @@ fn find_spare<E: LineEngine>(
             }
             waiting.take_out(row, col);
             let cell = Cell { row, col };
-            let verdict = judge_without(alloc, engine, document, book, allowance, cell)?;
-            spare = spare_after(spare, &verdict, cell);
-            if spare.is_given() {
-                return Ok(spare);
+            let settles = settles_without(alloc, engine, document, book, cell)?;
+            if settles {
+                return Ok(Some(cell));
             }
         }
     }
-    Ok(spare)
+    Ok(None)
 }
 
-// What is known after the verdict without one more given.
-fn spare_after(spare: Spare, verdict: &Verdict, cell: Cell) -> Spare
-    ensures { result ≡ spare_after spare verdict.now cell }
-{
-    match (verdict, spare) {
-        (Verdict::Unique, _) => Spare::Given(cell),
-        (Verdict::Undecided, Spare::Nothing) => Spare::Unknown(cell),
-        _ => spare,
-    }
-}
-
-// Judges a puzzle without one of its givens, on a copy, and keeps nothing of what was found.
-fn judge_without<E: LineEngine>(
+// Whether lines settle the cell of a given without it.
+fn settles_without<E: LineEngine>(
     alloc: Global,
     engine: &mut E,
     document: &Document,
     book: &ClueBook,
-    allowance: Option<u32>,
     cell: Cell,
-) -> Result<Verdict, AllocError>
+) -> Result<bool, AllocError>
     requires book { book.now ≡ clues_of document.now.picture }
     requires in_rows { cell.row < length document.now.picture }
     requires in_columns { cell.col < width_of document.now.picture }
     requires long { MAX_SIDE ≤ E.longest engine.old }
-    ensures without { IfOk result
-        (IsWithout document.now.picture document.now.givens allowance cell.row cell.col) }
-    ensures few { AreFewJudged document.now.picture allowance 1 (E.calls engine.old)
-        (E.calls engine.new) }
+    ensures settles { IfOk result
+        (SettlesWithout document.now.picture document.now.givens cell.row cell.col) }
+    ensures few { E.calls engine.new ≤ E.calls engine.old + most_to_close document.now.picture }
     ensures calls { E.calls engine.old ≤ E.calls engine.new }
     ensures same_longest { E.longest engine.new ≡ E.longest engine.old }
 {
     let _ = (engine.calls(), document.picture.height());
     let mut copy = document.copy()?;
     copy.givens.take_out(cell.row, cell.col);
-    judge_afresh(alloc, engine, &copy, book, allowance)
+    let map = settled(alloc, engine, &copy, book)?;
+    let shown = map.shown(cell.row, cell.col);
+    Ok(shown.is_some())
 }

@@ -8,8 +8,6 @@ use Rattle.grade.specs.declared.word.Grade.{Grade}
 use Rattle.grade_text.specs.GradeText.{grade_text, numbers_text, unknown_text}
 use Rattle.report_text.specs.Shown.{letter, picture_text}
 use Rattle.assess.specs.declared.assessment.Assessment.{Assessment}
-use Rattle.assess.specs.declared.assessment.Spare.{Spare}
-use Rattle.assess.specs.declared.assessment.Spare.TheVariants.{Nothing, Given, Unknown, Unnamed}
 use Rattle.assess.specs.declared.assessment.Verdict.{Verdict}
 use Rattle.assess.specs.declared.assessment.Verdict.TheVariants.{Unique, Ambiguous, Undecided}
 use Rattle.assess.specs.Assessed.{is_fit}
@@ -48,16 +46,10 @@ rating_text found = rating_of found.verdict found.figures found.grade
 abbrev pub flaw_if : Bool → List ℕ → List ℕ
 flaw_if is_there words = if is_there then line_text words [] else []
 
--- words, and a cell by its row and column, from 1
-abbrev pub cell_text : List ℕ → Cell → List ℕ
-cell_text words cell = line_text words ((cell.row + 1) ∷ (cell.col + 1) ∷ [])
-
--- the first given that is not needed, or that may not be
-abbrev pub spare_text : Spare → List ℕ
-spare_text Nothing = []
-spare_text (Given cell) = cell_text (codes "flaw given") cell
-spare_text (Unknown cell) = cell_text (codes "unknown given") cell
-spare_text (Unnamed cell) = cell_text (codes "flaw spare") cell
+-- the first given that is not needed, by its row and column, from 1
+abbrev pub spare_text : Option Cell → List ℕ
+spare_text None = []
+spare_text (Some cell) = line_text (codes "flaw given") ((cell.row + 1) ∷ (cell.col + 1) ∷ [])
 
 -- two colours that look alike, by their letters, of sixteen
 unfoldable pub alike_text : Alike → List ℕ

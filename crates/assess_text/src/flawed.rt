@@ -2,17 +2,17 @@
 
 ghost use Rattle.std.specs.Prelude.{◌≡◌, ◌++◌, OnOk};
 ghost use Rattle.std.specs.List.{flat_map};
-ghost use Rattle.assess_text.specs.AssessmentText.{alike_text, cell_text, flaw_if, flaws_text, spare_text};
+ghost use Rattle.assess_text.specs.AssessmentText.{alike_text, flaw_if, flaws_text, spare_text};
 
 use crate::line::push_line;
-use assess::{Assessment, Spare};
+use assess::Assessment;
 use flaws::Alike;
 use grade_text::colour_letter;
 use std::alloc::AllocError;
 use trail::Cell;
 
 #[tactic(auto, using(std::proofs::lemmas::List::append_assoc))]
-/// Appends the flaws, and the given of which the allowance leaves open whether it is needed.
+/// Appends the flaws.
 pub(crate) fn push_flaws(text: &mut Vec<u8>, found: &Assessment) -> Result<(), AllocError>
     ensures { OnOk result (text.new.items ≡ text.old.items ++ flaws_text found.now) }
 {
@@ -32,25 +32,16 @@ fn push_flaw(text: &mut Vec<u8>, is_there: bool, words: &[u8]) -> Result<(), All
     Ok(())
 }
 
-// The first given that is not needed, or that may not be.
-fn push_spare(text: &mut Vec<u8>, spare: Spare) -> Result<(), AllocError>
+// The first given that is not needed, by its row and column, from 1.
+fn push_spare(text: &mut Vec<u8>, spare: Option<Cell>) -> Result<(), AllocError>
     ensures { OnOk result (text.new.items ≡ text.old.items ++ spare_text spare) }
 {
-    match spare {
-        Spare::Nothing => Ok(()),
-        Spare::Given(cell) => push_cell(text, b"flaw given", cell),
-        Spare::Unknown(cell) => push_cell(text, b"unknown given", cell),
-        Spare::Unnamed(cell) => push_cell(text, b"flaw spare", cell),
-    }
-}
-
-// Words, and a cell by its row and column, from 1.
-fn push_cell(text: &mut Vec<u8>, words: &[u8], cell: Cell) -> Result<(), AllocError>
-    ensures { OnOk result (text.new.items ≡ text.old.items ++ cell_text words.now cell) }
-{
+    let Some(cell) = spare else {
+        return Ok(());
+    };
     push_line(
         text,
-        words,
+        b"flaw given",
         &[u64::from(cell.row) + 1, u64::from(cell.col) + 1],
     )
 }

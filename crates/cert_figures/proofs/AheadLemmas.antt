@@ -1,5 +1,4 @@
--- What is ahead of a walk through a certificate: lines with facts that wait, or the trees of the branches that are still
--- to come.
+-- What is ahead of a walk through a tree: the trees of the branches that are still to come.
 use Rattle.std.proofs.Common.{◌≡◌, ℕ, ◌+◌, ◌-◌, ◌^◌, ◌<◌, ◌≤◌, List, [], ◌∷◌, ◌++◌, append_assoc, get_or, length, drop, drop-cons, add-one, refl}
 use Rattle.std.proofs.Common.{sym, ap, subst, ◌∙◌, arith, max, min, replicate, length-append}
 use Rattle.std.proofs.lemmas.List.{append-nil}
@@ -11,7 +10,7 @@ use Rattle.cert_text.specs.declared.cert_line.CertLine.{CertLine}
 use Rattle.cert_check.specs.Puzzle.{IsForced, line_id, split_at}
 use Rattle.cert_check.specs.Tree.{Tree, Trees, done, dead, forced, split, none, more, written, each_written, Proves, EachProves}
 use Rattle.cert_check.proofs.TreeExactness.{same_gains}
-use Rattle.cert_figures.specs.Guessing.{depth_in, depth_of, most_waits, waits_after}
+use Rattle.cert_figures.specs.Guessing.{depth_in, depth_of}
 use Rattle.cert_figures.specs.Nesting.{Follows, IsAt, nest_after}
 
 max_assoc : (a b c : ℕ) → max a (max b c) ≡ max (max a b) c
@@ -20,15 +19,6 @@ max_assoc a b c = omega (arith, sub-add-eq-max a (max b c), sub-add-eq-max b c, 
 -- the next of some lines, and those after it
 next_line : (lines : List CertLine) (d : CertLine) (i : ℕ) → i < length lines → drop i lines ≡ get_or lines i d ∷ drop (i + 1) lines
 next_line lines d i l = rw add-one (drop-cons lines i d l)
-
--- the most that wait after lines, of which one more is taken
-pub one_taken : (lines : List CertLine) (d : CertLine) (i waits most all : ℕ) → i < length lines → all ≡ max most (most_waits waits (drop i lines))
-    → all ≡ max (max most (waits_after waits (get_or lines i d))) (most_waits (waits_after waits (get_or lines i d)) (drop (i + 1) lines))
-one_taken lines d i waits most all l e =
-    let line = get_or lines i d in
-    e ∙ ap (λ (ls : List CertLine). max most (most_waits waits ls)) (next_line lines d i l) ∙ max_assoc most (waits_after waits line) (most_waits (waits_after waits line) (drop (i + 1) lines))
-
-pub ruleset waits = (one_taken)
 
 -- how many splits of some trees stand in each other, where each tree stands in so many
 abbrev pub deepest : List ℕ → Trees → ℕ

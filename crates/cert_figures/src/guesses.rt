@@ -1,10 +1,10 @@
-//! The figures of a certificate.
+//! The figures of a tree.
 
-/// How many guesses a certificate makes, and how many of them stand in each other.
+/// How many guesses a tree makes, and how many of them stand in each other.
 #[derive(Clone, Copy, Debug, PartialEq, Eq)]
 pub struct Guesses {
-    /// The splits of a tree; the parts and the lemmas of a certificate with lemmas.
+    /// Its splits.
     pub splits: u64,
-    /// How many splits stand in each other at most; the most facts that wait.
+    /// How many splits stand in each other at most.
     pub depth: u64,
 }

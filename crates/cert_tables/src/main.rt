@@ -6,7 +6,7 @@
 use anyhow::Result;
 use cert_check::{check_cert, check_published};
 use cert_figures::{Guesses, guesses_of};
-use cert_text::{CertFault, read_cert};
+use cert_text::{CertFault, Form, read_cert};
 use givens_text::published_cells;
 use line_settle::MaskEngine;
 use picture::{CellSet, MAX_SIDE, Picture};
@@ -50,15 +50,21 @@ fn tell(rt: &(impl AllocGlobal + Print + Files), file: &str, rest: &str) -> Resu
     }
 }
 
-// Prints how many givens a certificate has that is accepted, and its figures; or its first error.
-fn print_answer(rt: &impl Print, answer: Result<(usize, Guesses), CertFault>) -> Result<()> {
+// Prints how many givens a certificate has that is accepted, and the figures of a tree; or its first error.
+fn print_answer(
+    rt: &impl Print,
+    answer: Result<(usize, Option<Guesses>), CertFault>,
+) -> Result<()> {
     match answer {
-        Ok((givens, Guesses { splits, depth })) => {
+        Ok((givens, figures)) => {
             print!(rt; "accepted")?;
             if givens > 0 {
                 print!(rt; ", givens {givens}")?;
             }
-            println!(rt; ", splits {splits}, depth {depth}")?;
+            if let Some(Guesses { splits, depth }) = figures {
+                print!(rt; ", splits {splits}, depth {depth}")?;
+            }
+            println!(rt; "")?;
         }
         Err(fault) => {
             let line = fault.place().unwrap_or(0);
@@ -68,13 +74,14 @@ fn print_answer(rt: &impl Print, answer: Result<(usize, Guesses), CertFault>) ->
     Ok(())
 }
 
-// How many givens a certificate has, and its figures, if it is accepted and names no other cells than those that are published.
+// How many givens a certificate has, and the figures of a tree, if it is accepted and names no other cells than those that are
+// published.
 fn checked(
     alloc: Global,
     picture: &Picture,
     text: &[u8],
     published: Option<&CellSet>,
-) -> Result<(usize, Guesses), CertFault> {
+) -> Result<(usize, Option<Guesses>), CertFault> {
     let cert = read_cert(alloc, text)?;
     let _ = picture.height();
     let mut engine = MaskEngine::make(alloc, MAX_SIDE)?;
@@ -82,6 +89,9 @@ fn checked(
         None => check_cert(alloc, &mut engine, picture, &cert)?,
         Some(cells) => check_published(alloc, &mut engine, picture, &cert, cells)?,
     }
-    let guesses = guesses_of(alloc, &mut engine, picture, &cert)?;
-    Ok((cert.givens().len(), guesses))
+    let figures = match cert.form() {
+        Form::Tree | Form::GivenTree => Some(guesses_of(alloc, &mut engine, picture, &cert)?),
+        Form::Lemmas | Form::LemmaRuns => None,
+    };
+    Ok((cert.givens().len(), figures))
 }

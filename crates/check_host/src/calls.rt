@@ -70,8 +70,7 @@ pub extern "C" fn nonocheck_check_published(
     say(alloc, answer, out)
 }
 
-/// Finds the flaws of a picture that show without a search: whether it is blank, whether a background that is passed is one that no
-/// cell has, and the pairs of colours that look alike, as two bytes each, by their numbers, with zeros behind them. Where the picture
+/// Finds the flaws of a picture that show without a search: whether it is blank, whether no cell has the background, and the pairs of colours that look alike, as two bytes each, by their numbers, with zeros behind them. Where the picture
 /// is refused, there are none.
 #[unsafe(no_mangle)]
 pub extern "C" fn nonocheck_flaws(

@@ -18,7 +18,7 @@ pub struct Flaws {
     pub alike: Vec<u8>,
 }
 
-/// The flaws of the picture of a P3 text. A background that is passed counts as named.
+/// The flaws of the picture of a P3 text.
 pub fn flaws_of(alloc: Global, file: &[u8], background: Option<Rgb>) -> Result<Flaws, CheckFault>
     ensures { Finds file.now background result }
 {
@@ -29,7 +29,7 @@ pub fn flaws_of(alloc: Global, file: &[u8], background: Option<Rgb>) -> Result<F
     push_pairs(&mut alike, &pairs)?;
     Ok(Flaws {
         is_blank: !is_painted(picture),
-        lacks_background: background.is_some() && !has_colour(picture, 0),
+        lacks_background: !has_colour(picture, 0),
         alike,
     })
 }

@@ -27,21 +27,20 @@ read_is : (held : List ℕ → Held) (path : Option (Bor (List ℕ))) (name text
     → text ≡ known
 read_is held path name text known is has holds = text_is held path text known has (subst (λ (n : Option (List ℕ)). HoldsIf held n known) (sym is) holds)
 
-moved : (file f : List ℕ) (givens g cert c : Option (List ℕ)) (options o : AssessOptions) → f ≡ file → g ≡ givens → c ≡ cert → o ≡ options → IsFitText f g c o → IsFitText file givens cert options
-moved file f givens g cert c options o same_file same_givens same_cert same_options fit =
-    let one : IsFitText file g c o = subst (λ (x : List ℕ). IsFitText x g c o) same_file fit in
-    let two : IsFitText file givens c o = subst (λ (x : Option (List ℕ)). IsFitText file x c o) same_givens one in
-    let three : IsFitText file givens cert o = subst (λ (x : Option (List ℕ)). IsFitText file givens x o) same_cert two in
-    subst (λ (x : AssessOptions). IsFitText file givens cert x) same_options three
+moved : (file f : List ℕ) (givens g : Option (List ℕ)) (options o : AssessOptions) → f ≡ file → g ≡ givens → o ≡ options → IsFitText f g o → IsFitText file givens options
+moved file f givens g options o same_file same_givens same_options fit =
+    let one : IsFitText file g o = subst (λ (x : List ℕ). IsFitText x g o) same_file fit in
+    let two : IsFitText file givens o = subst (λ (x : Option (List ℕ)). IsFitText file x o) same_givens one in
+    subst (λ (x : AssessOptions). IsFitText file givens x) same_options two
 
-module _ (law : FitPuzzlesAreFit) (held : List ℕ → Held) (asked : Asked) (givens cert : Option (List ℕ)) (options : AssessOptions) (same_givens : text_in asked.givens ≡ givens)
-    (same_cert : text_in asked.cert ≡ cert) (same_options : asked.options ≡ options) where
+module _ (law : FitPuzzlesAreFit) (held : List ℕ → Held) (asked : Asked) (givens : Option (List ℕ)) (options : AssessOptions) (same_givens : text_in asked.givens ≡ givens)
+    (same_options : asked.options ≡ options) where
   fit_files : (several : Bool) (number : ℕ) (paths : List (Bor (List ℕ))) (text : List ℕ) → AreFit held asked several number paths text
-      → AllByRecursion (λ path. (file : List ℕ) → held path ≡ Holds file → IsFitText file givens cert options) (texts paths)
+      → AllByRecursion (λ path. (file : List ℕ) → held path ≡ Holds file → IsFitText file givens options) (texts paths)
   fit_files several number [] text are = tt
   fit_files several number (path ∷ paths) text (block, (is, (rest, (text_is_both, more)))) = (
     λ file holds.
-        moved file is.file givens (text_in asked.givens) cert (text_in asked.cert) options asked.options (subst (λ (h : Held). IsContent h is.file) holds is.content) same_givens same_cert
+        moved file is.file givens (text_in asked.givens) options asked.options (subst (λ (h : Held). IsContent h is.file) holds is.content) same_givens
         same_options (law is.file (text_in asked.givens) (text_in asked.cert) asked.options block is.assesses is.fit),
     fit_files several (number + 1) paths rest more,
   )
@@ -49,7 +48,7 @@ module _ (law : FitPuzzlesAreFit) (held : List ℕ → Held) (asked : Asked) (gi
 module _ (law : FitPuzzlesAreFit) (held : List ℕ → Held) (before after : World) (paths : Texts) (givens_path cert_path : Option (List ℕ)) (options : AssessOptions)
     (givens cert : Option (List ℕ)) (givens_are : HoldsIf held givens_path givens) (cert_is : HoldsIf held cert_path cert) where
   abbrev AllFit : Type 0
-  AllFit = AllByRecursion (λ path. (file : List ℕ) → held path ≡ Holds file → IsFitText file givens cert options) paths
+  AllFit = AllByRecursion (λ path. (file : List ℕ) → held path ≡ Holds file → IsFitText file givens options) paths
 
   only_fit : (task : Task) → IsAssessOn paths givens_path cert_path options task → IsDone held before after task → AllFit
   only_fit Clues is done = absurd is
@@ -59,9 +58,8 @@ module _ (law : FitPuzzlesAreFit) (held : List ℕ → Held) (before after : Wor
   only_fit (Help shown) is done = absurd is
   only_fit (Assess files chosen beside proof) is done =
       let same_givens = read_is held beside givens_path (text_in done.asked.givens) givens is.1.0 done.givens_are givens_are in
-      let same_cert = read_is held proof cert_path (text_in done.asked.cert) cert is.1.1.0 done.cert_is cert_is in
-      subst (λ (xs : Texts). AllByRecursion (λ path. (file : List ℕ) → held path ≡ Holds file → IsFitText file givens cert options) xs) is.0
-      (fit_files law held done.asked givens cert options same_givens same_cert (done.options_are ∙ is.1.1.1) (not (length files.items == 1)) 1 files.items done.text done.are_fit)
+      subst (λ (xs : Texts). AllByRecursion (λ path. (file : List ℕ) → held path ≡ Holds file → IsFitText file givens options) xs) is.0
+      (fit_files law held done.asked givens options same_givens (done.options_are ∙ is.1.1.1) (not (length files.items == 1)) 1 files.items done.text done.are_fit)
 
   opened_fit : (arguments : Texts) (status : ℕ) → AskOnly arguments (IsAssessOn paths givens_path cert_path options) → status ≡ 0 → Opens arguments held before after status → AllFit
   opened_fit arguments status asks well (inl none) = absurd (none.1 well)

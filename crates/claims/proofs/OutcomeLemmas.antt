@@ -37,6 +37,7 @@ fails fault.NotText e = absurd cc
 fails fault.HelpBeside e = absurd cc
 fails fault.Background e = absurd cc
 fails fault.BackgroundOfNon e = absurd cc
+fails fault.Allowance e = absurd cc
 fails fault.Read e = absurd cc
 fails fault.Write e = absurd cc
 fails (fault.Ppm f) e = absurd cc

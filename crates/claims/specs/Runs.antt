@@ -178,4 +178,4 @@ AssessedAreFit arguments held status =
     (paths : Texts) (givens_path cert_path : Option (List ℕ)) (options : AssessOptions) (givens cert : Option (List ℕ))
     → AskOnly arguments (IsAssessOn paths givens_path cert_path options)
     → HoldsIf held givens_path givens → HoldsIf held cert_path cert → status ≡ 0
-    → AllByRecursion (λ path. (file : List ℕ) → held path ≡ Holds file → IsFitText file givens cert options) paths
+    → AllByRecursion (λ path. (file : List ℕ) → held path ≡ Holds file → IsFitText file givens options) paths

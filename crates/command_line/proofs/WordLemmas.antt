@@ -37,7 +37,7 @@ given_same f =
       complete = one (codes "complete") i;
       files = unwrap_or (all i) [];
       certificate = first (codes "certificate") i;
-      allow = one (codes "allow") i;
+      allow = first (codes "allow") i;
     }
 
 -- ---- the subcommand
@@ -193,6 +193,7 @@ memory_or words k (Err fault.TooLong) u = inl (memory_is fault.TooLong u)
 memory_or words k (Err fault.NotText) u = inl (memory_is fault.NotText u)
 memory_or words k (Err fault.Background) u = inl (memory_is fault.Background u)
 memory_or words k (Err fault.BackgroundOfNon) u = inl (memory_is fault.BackgroundOfNon u)
+memory_or words k (Err fault.Allowance) u = inl (memory_is fault.Allowance u)
 memory_or words k (Err fault.OneFile) u = inl (memory_is fault.OneFile u)
 memory_or words k (Err fault.Unfit) u = inl (memory_is fault.Unfit u)
 memory_or words k (Err fault.Read) u = inl (memory_is fault.Read u)

@@ -61,11 +61,7 @@ files_rule = record (word_rule (codes "files")) {
 }
 
 abbrev pub allow_rule : Rule
-allow_rule = record (new_rule (codes "allow")) {
-  long = Some (codes "allow");
-  value_names = 1;
-  parser = Some (parser.Signed (pos 0) (pos 99999));
-}
+allow_rule = record (new_rule (codes "allow")) { long = Some (codes "allow"); value_names = 1 }
 
 abbrev pub certificate_rule : Rule
 certificate_rule = record (new_rule (codes "certificate")) { long = Some (codes "certificate"); value_names = 1 }

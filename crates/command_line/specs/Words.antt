@@ -15,6 +15,8 @@ use Rattle.program_options.specs.declared.fault.ProgramFault.TheVariants as faul
 use Rattle.program_options.specs.declared.assessing.AssessOptions.{AssessOptions}
 use Rattle.program_options.specs.declared.options.Options.{Options}
 use Rattle.program_options.specs.declared.options.ProveOptions.{ProveOptions}
+use Rattle.command_text.specs.Parse.{allowance_of}
+use Rattle.command_text.specs.declared.command.TheConstants.{ASSESS_SPLITS}
 use Rattle.program_options.specs.Background.{background_of}
 use Rattle.program_options.specs.Options.{IsLawful}
 use Rattle.command_line.specs.Program.{AreFormats, Formats, program_app}
@@ -53,7 +55,7 @@ given_in rows = record {
   complete = one_of (codes "complete") rows;
   files = unwrap_or (all_of (codes "files") rows) [];
   certificate = first_of (codes "certificate") rows;
-  allow = one_of (codes "allow") rows;
+  allow = first_of (codes "allow") rows;
 }
 
 -- these texts in the entries of a subcommand
@@ -68,7 +70,7 @@ given_of f = record {
   complete = one_text f (codes "complete");
   files = unwrap_or (option_map raw_values (matched_of f (codes "files"))) [];
   certificate = first_value f (codes "certificate");
-  allow = one_text f (codes "allow");
+  allow = first_value f (codes "allow");
 }
 
 -- ---- the task
@@ -138,23 +140,32 @@ IsProve g (Err e) = background_asked g.background ≡ Err e
 
 -- ---- assessments
 
--- The format and the background are those of the words; so is
--- the allowance, where its text writes a number up to 99,999.
+abbrev pub allowance_named : Option (Option ℕ) → Result (Option ℕ) ProgramFault
+allowance_named None = Err fault.Allowance
+allowance_named (Some allowance) = Ok allowance
+
+-- The allowance that is asked for: 10,000 splits where there is no text, none for `off`, or the number that the text
+-- writes; or the error of another text.
+abbrev pub allowance_asked : Option Text → Result (Option ℕ) ProgramFault
+allowance_asked None = Ok (Some ASSESS_SPLITS)
+allowance_asked (Some text) = allowance_named (allowance_of text)
+
+-- the format, the background and the allowance are those of the words
 pub record AreAssessOptions (g : Given) (options : AssessOptions) : Type 0 where
   pub format : (options.non ≡ true) ↔ (g.format ≡ Some (codes "non"))
   pub background : background_asked g.background ≡ Ok options.background
-  pub unbounded : g.allow ≡ None → options.allowance ≡ None
-  pub allowance : (text : Text) (n : ℕ) → n ≤ 99999 → Spells text n → g.allow ≡ Some text → options.allowance ≡ Some n
+  pub allowance : allowance_asked g.allow ≡ Ok options.allowance
 
 -- givens or a certificate are named
 abbrev pub has_beside : Given → Bool
 has_beside g = is_some g.givens || is_some g.certificate
 
--- Why no assessment is asked for: as for a session; or givens or a certificate are named for another number of
--- files than one.
+-- Why no assessment is asked for: as for a session; or the allowance is none; or givens or a certificate are named for
+-- another number of files than one.
 abbrev pub IsUnassessed : Given → ProgramFault → Type 0
 IsUnassessed g e =
-    IsRefused g e ⊎ ((e ≡ fault.OneFile) × ((has_beside g ≡ true) × (length g.files ≡ 1 → ⊥)))
+    IsRefused g e
+    ⊎ ((allowance_asked g.allow ≡ Err e) ⊎ ((e ≡ fault.OneFile) × ((has_beside g ≡ true) × (length g.files ≡ 1 → ⊥))))
 
 -- assessments of these files with these options, and the files beside the puzzle's
 abbrev pub IsAssess : Given → Result Task ProgramFault → Type 0

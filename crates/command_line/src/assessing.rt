@@ -1,12 +1,13 @@
 //! The assessments that words ask for.
 
-ghost use Rattle.std.specs.Prelude.{◌≡◌, ◌≤◌, ℕ, [], codes, IfOk, None, Some, option_map, unwrap_or};
+ghost use Rattle.std.specs.Prelude.{◌≡◌, [], codes, IfOk, option_map, unwrap_or};
 ghost use Rattle.clap.specs.Walk.{texts};
-ghost use Rattle.clap.specs.Words.{Text, found_of, matched_of, one_text, raw_values};
-ghost use Rattle.command_line.specs.Words.{IsAssess, IsLawfulTask, Spells, given_of};
+ghost use Rattle.clap.specs.Words.{first_value, found_of, matched_of, raw_values};
+ghost use Rattle.command_line.specs.Words.{IsAssess, IsLawfulTask, allowance_asked, given_of};
 
 use crate::words::{Task, background_of, has_format};
 use clap::ArgMatches;
+use command_text::{ASSESS_SPLITS, allowance_in};
 use program_options::{AssessOptions, ProgramFault};
 use std::alloc::{AllocError, Global};
 
@@ -23,13 +24,13 @@ pub(crate) fn assess_of<'a>(
     if non && background.is_some() {
         return Err(ProgramFault::BackgroundOfNon);
     }
+    let allowance = allowance_of(matches)?;
     let files = files_of(alloc, matches)?;
     let (givens, cert) = (matches.get_str("givens"), matches.get_str("certificate"));
     let has_beside = givens.is_some() || cert.is_some();
     if has_beside && files.len() != 1 {
         return Err(ProgramFault::OneFile);
     }
-    let allowance = allowance_of(matches);
     Ok(Task::Assess {
         files,
         options: AssessOptions {
@@ -54,11 +55,15 @@ fn files_of<'a>(alloc: Global, matches: &ArgMatches<'a>) -> Result<Vec<&'a str>,
     }
 }
 
-// The allowance, where one is given. The parser refuses a number above 99,999.
-fn allowance_of(matches: &ArgMatches<'_>) -> Option<u32>
-    ensures none { one_text (found_of matches.now) (codes "allow") ≡ None → result ≡ None }
-    ensures read { (text : Text) (n : ℕ) → n ≤ 99999 → Spells text n
-        → one_text (found_of matches.now) (codes "allow") ≡ Some text → result ≡ Some n }
+// The allowance: a number of splits, or none for `off`.
+fn allowance_of(matches: &ArgMatches<'_>) -> Result<Option<u32>, ProgramFault>
+    ensures { result ≡ allowance_asked (first_value (found_of matches.now) (codes "allow")) }
 {
-    matches.get_one::<u32>("allow")
+    let Some(text) = matches.get_str("allow") else {
+        return Ok(Some(ASSESS_SPLITS));
+    };
+    match allowance_in(text.as_bytes()) {
+        None => Err(ProgramFault::Allowance),
+        Some(allowance) => Ok(allowance),
+    }
 }

@@ -275,8 +275,7 @@ fn allow<'a>(alloc: Global) -> Arg<'a>
     Arg::new(alloc, "allow")
         .long("allow")
         .value_name("N")
-        .value_parser(value_parser!(u32).range(0..=99999))
-        .help("How many splits the search of a part may make, 0 to 99999")
+        .help("How many splits the search of a part may make, 0 to 99999, or off; 10000 if it is not given")
 }
 
 fn certificate<'a>(alloc: Global) -> Arg<'a>

@@ -117,10 +117,10 @@ palette_at words = read_by ((codes "add", made edit.AddColour (exactly 3 rgb_at)
 abbrev pub bare_at : Command → Meaning Command
 bare_at c words = counted 0 words >>= λ none. Ok c
 
--- `named` says that the background was named; without a word it was not
+-- `off` takes away the bound on splits
 unfoldable pub assess_at : Meaning Command
 assess_at [] = Ok (command.Assess false)
-assess_at (word ∷ words) = read_by ((codes "named", bare_at (command.Assess true)) ∷ []) (word ∷ words)
+assess_at (word ∷ words) = read_by ((codes "off", bare_at (command.Assess true)) ∷ []) (word ∷ words)
 
 -- ---- the command
 
@@ -137,7 +137,7 @@ IsBounded command.Certify = Unit {0}
 IsBounded command.WritePpm = Unit {0}
 IsBounded command.WriteNon = Unit {0}
 IsBounded command.Report = Unit {0}
-IsBounded (command.Assess is_named) = Unit {0}
+IsBounded (command.Assess is_off) = Unit {0}
 IsBounded command.Path = Unit {0}
 IsBounded (command.Allow allowance) = IfSome allowance (λ splits. splits < 100000)
 

@@ -2,6 +2,9 @@
 
 use edits::Edit;
 
+/// How many splits the search of each part may make in an assessment, where nothing else is said.
+pub const ASSESS_SPLITS: u32 = 10_000;
+
 /// One command of a session. Rows, columns and the places of lines count from 0, and colours are 0 to 15.
 #[derive(Clone, Copy, Debug, PartialEq, Eq)]
 pub enum Command {
@@ -27,8 +30,8 @@ pub enum Command {
     WriteNon,
     /// Shows a report: the document, its clues, its map, the verdict and the history's lengths.
     Report,
-    /// Asks whether the puzzle is fit to be published, with a background that was named or was not.
-    Assess { is_named: bool },
+    /// Asks whether the puzzle is fit to be published. `is_off` takes away the bound on splits.
+    Assess { is_off: bool },
     /// Shows the path of line logic.
     Path,
     /// Sets how many splits the search of each part may make. None removes that bound.

@@ -123,8 +123,8 @@ pub(crate) fn read_line(rest: &[u8]) -> Result<LineId, CommandFault>
     Ok(LineId { axis, at })
 }
 
-// `off`, or how many splits are allowed.
-pub(crate) fn allowance_in(word: &[u8]) -> Option<Option<u32>>
+/// An allowance: how many splits the search of each part may make, 0 to 99999, or `off` for no bound. None for any other word.
+pub fn allowance_in(word: &[u8]) -> Option<Option<u32>>
     ensures value { result ≡ allowance_of word.now }
     ensures small { IfSome result (λ allowance. IfSome allowance (λ splits. splits < 100000)) }
 {

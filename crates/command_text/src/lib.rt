@@ -12,8 +12,9 @@ mod request;
 mod session_fault;
 mod words;
 
-pub use command::Command;
+pub use command::{ASSESS_SPLITS, Command};
 pub use fault::CommandFault;
+pub use fields::allowance_in;
 pub use lines::{Lines, ReadFault};
 pub use numbers::sample_in;
 pub use request::{MOST_BYTES, Request, parse_command};

@@ -108,14 +108,14 @@ fn read_allow(rest: &[u8]) -> Result<Command, CommandFault>
 }
 
 #[tactic(auto, unfolding(crate::specs::Parse::assess_at))]
-// Whether the puzzle is fit to be published. The word `named` says that its background was named.
+// Whether the puzzle is fit to be published. The word `off` takes away the bound on splits.
 fn read_assess(rest: &[u8]) -> Result<Command, CommandFault>
     ensures value { Reads (λ c. c) result (assess_at (words_of rest.now)) }
     ensures bounded { IfOk result IsBounded }
 {
     match read_word(rest) {
-        Err(_) => Ok(Command::Assess { is_named: false }),
-        Ok((b"named", rest)) => bare(Command::Assess { is_named: true }, rest),
+        Err(_) => Ok(Command::Assess { is_off: false }),
+        Ok((b"off", rest)) => bare(Command::Assess { is_off: true }, rest),
         Ok(_) => Err(CommandFault::UnknownWord),
     }
 }

@@ -8,7 +8,7 @@ ghost use Rattle.flaws.specs.Cells.{has_colour, is_painted, is_shown};
 use picture::Picture;
 
 #[tactic(auto, using(crate::proofs::CellLemmas::cells))]
-/// Whether some cell of a picture has a colour. A puzzle whose background is named but that no cell has is flawed.
+/// Whether some cell of a picture has a colour. A puzzle is flawed if no cell has the background: then every line is full.
 pub fn has_colour(picture: &Picture, colour: u8) -> bool
     ensures { result ≡ has_colour colour picture.now }
 {

@@ -1,6 +1,6 @@
 -- What is worked out of a document as it is, with nothing kept: the path of line logic, and whether it is fit to be
 -- published.
-use Rattle.std.specs.Prelude.{◌≡◌, ℕ, Bool, List, Option}
+use Rattle.std.specs.Prelude.{◌≡◌, ℕ, List, Option}
 use Rattle.line_facts.specs.Masks.{Masks}
 use Rattle.picture.specs.declared.document.Document.{Document}
 use Rattle.clues.specs.ClueBook.{clues_of}
@@ -39,9 +39,8 @@ abbrev pub IsPathOf : Design → Path → Type 0
 IsPathOf d path = HoldsOf d (IsPath path)
 
 -- An assessment of the document under an allowance. It starts with nothing known of the parts.
-abbrev pub IsAssessmentOf : Design → Bool → Option ℕ → Assessment → Type 0
-IsAssessmentOf d is_named allowance found =
-    HoldsOf d (λ document. IsAssessment document is_named allowance found)
+abbrev pub IsAssessmentOf : Design → Option ℕ → Assessment → Type 0
+IsAssessmentOf d allowance found = HoldsOf d (λ document. IsAssessment document allowance found)
 
 -- it calls the engine no more often than an assessment of the document does under the allowance
 abbrev pub AreFewToAssess : Design → Option ℕ → ℕ → ℕ → Type 0

@@ -33,21 +33,20 @@ pub(crate) fn path_of<E: LineEngine>(
     Ok(path)
 }
 
-/// An assessment of a document. `is_named` says whether its background was named.
+/// An assessment of a document under an allowance.
 pub(crate) fn assessment_of<E: LineEngine>(
     alloc: Global,
     engine: &mut E,
     document: &Document,
-    is_named: bool,
     allowance: Option<u32>,
 ) -> Result<Assessment, AllocError>
     requires { MAX_SIDE ≤ E.longest engine.old }
-    ensures assessment { IfOk result (IsAssessmentOf (design_of document.now) is_named allowance) }
+    ensures assessment { IfOk result (IsAssessmentOf (design_of document.now) allowance) }
     ensures few { AreFewToAssess (design_of document.now) allowance (E.calls engine.old)
         (E.calls engine.new) }
     ensures calls { E.calls engine.old ≤ E.calls engine.new }
     ensures same_longest { E.longest engine.new ≡ E.longest engine.old }
 {
     let _ = document.givens.has(0, 0);
-    assess(alloc, engine, document, is_named, allowance)
+    assess(alloc, engine, document, allowance)
 }

@@ -420,12 +420,19 @@ impl<E: LineEngine + Drop, A: Agenda + Drop> Bench<E, A> {
         )
     }
 
-    /// Assesses the present puzzle under the allowance: whether it is fit to be published. `is_named` says whether its background
-    /// was named. What was found before does not count, nothing is kept, and nothing changes but `calls`.
-    pub fn assess(&mut self, is_named: bool) -> Result<Assessment, AllocError>
+    /// How many splits the search of each part may make, where that is bounded.
+    pub fn allowance(&self) -> Option<u32>
+        ensures { result ≡ self.now.allowance }
+    {
+        self.allowance
+    }
+
+    /// Assesses the present puzzle under an allowance of its own: whether it is fit to be published. What was found before does not
+    /// count, nothing is kept, and nothing changes but `calls`.
+    pub fn assess(&mut self, allowance: Option<u32>) -> Result<Assessment, AllocError>
         ensures assessment { IfOk result
-            (IsAssessmentOf self.old.history.document is_named self.old.allowance) }
-        ensures few { AreFewToAssess self.old.history.document self.old.allowance self.old.calls
+            (IsAssessmentOf self.old.history.document allowance) }
+        ensures few { AreFewToAssess self.old.history.document allowance self.old.calls
             self.new.calls }
         ensures as_before { IsAsBefore self.old self.new }
         ensures calls { self.old.calls ≤ self.new.calls }
@@ -435,8 +442,7 @@ impl<E: LineEngine + Drop, A: Agenda + Drop> Bench<E, A> {
             self.alloc,
             &mut self.engine,
             self.studio.document(),
-            is_named,
-            self.allowance,
+            allowance,
         )
     }
 }

@@ -15,7 +15,7 @@ use Rattle.program_options.specs.declared.fault.ProgramFault.{ProgramFault}
 use Rattle.program_options.specs.declared.fault.ProgramFault.TheVariants.{Ppm, Non, Edit, NoPicture, Cert}
 use Rattle.program_options.specs.declared.fault.ProgramFault.TheVariants.{NoCertificate, Givens}
 use Rattle.program_options.specs.declared.fault.ProgramFault.TheVariants.{Memory, TooLong, Words, NotText, HelpBeside, Background}
-use Rattle.program_options.specs.declared.fault.ProgramFault.TheVariants.{BackgroundOfNon, NoGoal, OneFile, Unfit}
+use Rattle.program_options.specs.declared.fault.ProgramFault.TheVariants.{Allowance, BackgroundOfNon, NoGoal, OneFile, Unfit}
 use Rattle.program_options.specs.declared.fault.ProgramFault.TheVariants.{Read, Write}
 
 -- an error of a check
@@ -60,6 +60,7 @@ fault_text NotText = codes "a word is not UTF-8"
 fault_text HelpBeside = codes "help and version go alone; a name that begins with - needs ./ or --"
 fault_text Background = codes "background must be R,G,B"
 fault_text BackgroundOfNon = codes "background goes with ppm"
+fault_text Allowance = codes "allowance must be 0 to 99999 or off"
 fault_text OneFile = codes "givens and certificate go with one file"
 fault_text Unfit = codes "unfit"
 fault_text Read = codes "read failed"
@@ -72,6 +73,7 @@ status_of NotText = 2
 status_of HelpBeside = 2
 status_of Background = 2
 status_of BackgroundOfNon = 2
+status_of Allowance = 2
 status_of OneFile = 2
 status_of Read = 3
 status_of Write = 3

@@ -9,6 +9,6 @@ pub struct AssessOptions {
     pub non: bool,
     /// The colour of the background in a P3 text, white where it is not given.
     pub background: Option<Rgb>,
-    /// How many splits the search of a part may make in each verdict, where that is bounded.
+    /// How many splits the search of a part may make, where that is bounded.
     pub allowance: Option<u32>,
 }

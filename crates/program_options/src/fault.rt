@@ -48,6 +48,8 @@ pub enum ProgramFault {
     Background,
     /// A background's colour was given for a .non text.
     BackgroundOfNon,
+    /// The allowance is neither a number up to 99,999 nor `off`.
+    Allowance,
     /// A file of givens or a certificate was named for several puzzles.
     OneFile,
     /// A puzzle that was assessed is unfit or was refused, as its block says.
@@ -75,6 +77,7 @@ impl ProgramFault {
             ProgramFault::Words(_) | ProgramFault::NotText => 2,
             ProgramFault::HelpBeside | ProgramFault::OneFile => 2,
             ProgramFault::Background | ProgramFault::BackgroundOfNon => 2,
+            ProgramFault::Allowance => 2,
             ProgramFault::Read | ProgramFault::Write => 3,
             _ => 1,
         }
@@ -103,6 +106,7 @@ impl fmt::Display for ProgramFault {
             }
             ProgramFault::Background => f.write_str("background must be R,G,B"),
             ProgramFault::BackgroundOfNon => f.write_str("background goes with ppm"),
+            ProgramFault::Allowance => f.write_str("allowance must be 0 to 99999 or off"),
             ProgramFault::OneFile => f.write_str("givens and certificate go with one file"),
             ProgramFault::Unfit => f.write_str("unfit"),
             ProgramFault::Read => f.write_str("read failed"),

@@ -1,7 +1,6 @@
 //! Assessments.
 //!
-//! `assess PICTURE` assesses a document, after `named` one whose background was named, and before an allowance under that. It prints
-//! the assessment, as the program does. `assess by OTHER PICTURE` assesses by the certificate that is made of another picture with
+//! `assess PICTURE` assesses a document, before an allowance under that. It prints the assessment, as the program does. `assess by OTHER PICTURE` assesses by the certificate that is made of another picture with
 //! its givens, or prints why this is refused.
 
 use anyhow::{Context, Result};
@@ -14,15 +13,10 @@ use std::alloc::Global;
 use table_words::document_in;
 
 /// The assessment of a picture, as a text.
-pub fn assessed(
-    alloc: Global,
-    picture: &str,
-    is_named: bool,
-    allowance: Option<u32>,
-) -> Result<String> {
+pub fn assessed(alloc: Global, picture: &str, allowance: Option<u32>) -> Result<String> {
     let document = document_in(alloc, picture)?;
     let mut engine = MaskEngine::make(alloc, MAX_SIDE)?;
-    let found = assess(alloc, &mut engine, &document, is_named, allowance)?;
+    let found = assess(alloc, &mut engine, &document, allowance)?;
     text_of(alloc, &found)
 }
 
@@ -34,7 +28,7 @@ pub fn assessed_by(alloc: Global, picture: &str, other: &str) -> Result<String> 
     let mut engine = MaskEngine::make(alloc, MAX_SIDE)?;
     let cert = make_cert(alloc, &mut engine, &certified.picture, &certified.givens)?;
     let cert = cert.context("there is another picture")?;
-    match assess_by(alloc, &mut engine, &document, false, &cert) {
+    match assess_by(alloc, &mut engine, &document, &cert) {
         Ok(found) => text_of(alloc, &found),
         Err(fault) => Ok(format!(in alloc; "refused: {fault}\n")?),
     }

@@ -53,12 +53,10 @@ fn told_of(alloc: Global, words: &[&str]) -> Result<String> {
 // The answer to a call of `assess`.
 fn assess_words(alloc: Global, words: &[&str]) -> Result<String> {
     match words {
-        [picture] => assessed(alloc, picture, false, None),
+        [picture] => assessed(alloc, picture, None),
         ["by", other, picture] => assessed_by(alloc, picture, other),
-        ["named", picture] => assessed(alloc, picture, true, None),
-        [picture, most] => assessed(alloc, picture, false, Some(splits_in(most)?)),
-        ["named", picture, most] => assessed(alloc, picture, true, Some(splits_in(most)?)),
-        _ => bail!("assess [named] PICTURE [ALLOWANCE], or assess by OTHER PICTURE"),
+        [picture, most] => assessed(alloc, picture, Some(splits_in(most)?)),
+        _ => bail!("assess PICTURE [ALLOWANCE], or assess by OTHER PICTURE"),
     }
 }
 

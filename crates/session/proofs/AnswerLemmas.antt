@@ -35,6 +35,7 @@ use Rattle.session.specs.declared.answer.Answer.TheVariants.{Silence, Done, Text
 use Rattle.session.specs.Answer.{GivesNon, IsAsked, answer_text, stroke_said, text_said}
 use Rattle.report_text.specs.ClueText.{clues_text}
 use Rattle.session.specs.Refusal.{edit_line, memory_line, refusal_line}
+use Rattle.session.specs.Allowing.{assess_allowance}
 use Rattle.session.specs.Session.{JudgesAs, Replies, SaysStroke, report_on}
 use Rattle.session.specs.Texts.{certified_text, content, done_text, path_shown, verdict_text, verdict_word, why_text}
 use Rattle.report_text.specs.Report.{ending_text}
@@ -120,12 +121,12 @@ replies_certify old new (Ok text) learns before audited calls found = (inl (foun
 replies_certify old new (Err e) learns before audited calls found = (inr (refl, before), calls)
 
 -- what was worked out of the document
-pub replies_assess : {E : Type 0} (old new : Seen) (is_named : Bool) (outcome : Result (Vec ℕ Global) E) → IsAsBefore old new → old.calls ≤ new.calls
-    → IfOk outcome (λ text. (found : Assessment) × (IsAssessmentOf old.history.document is_named old.allowance found × (text.items ≡ assessment_text found)))
-    → Replies (command.Assess is_named) old (answer_text (text_said outcome)) new
+pub replies_assess : {E : Type 0} (old new : Seen) (is_off : Bool) (outcome : Result (Vec ℕ Global) E) → IsAsBefore old new → old.calls ≤ new.calls
+    → IfOk outcome (λ text. (found : Assessment) × (IsAssessmentOf old.history.document (assess_allowance is_off old.allowance) found × (text.items ≡ assessment_text found)))
+    → Replies (command.Assess is_off) old (answer_text (text_said outcome)) new
 unfolding Replies
-replies_assess old new is_named (Ok text) before calls found = (inl (found.0, (found.1.0, (found.1.1, before))), calls)
-replies_assess old new is_named (Err e) before calls found = (inr (refl, before), calls)
+replies_assess old new is_off (Ok text) before calls found = (inl (found.0, (found.1.0, (found.1.1, before))), calls)
+replies_assess old new is_off (Err e) before calls found = (inr (refl, before), calls)
 
 pub replies_path : {E : Type 0} (old new : Seen) (outcome : Result (Vec ℕ Global) E) → IsAsBefore old new → old.calls ≤ new.calls
     → IfOk outcome (λ text. (path : Path) × (IsPathOf old.history.document path × (text.items ≡ path_shown path)))

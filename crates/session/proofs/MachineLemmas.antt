@@ -107,7 +107,7 @@ said_at command.Report old new text a h =
 said_at command.Certify old new text a h =
     let l = h.1.1.1 in
     at_either text (machine_of old) new (record { audited = l.1; machine_is = ap machine_of l.0.same })
-said_at (command.Assess is_named) old new text a h = at_either text (machine_of old) new (as_before old new a h.1.1.1)
+said_at (command.Assess is_off) old new text a h = at_either text (machine_of old) new (as_before old new a h.1.1.1)
 said_at command.Path old new text a h = at_either text (machine_of old) new (as_before old new a h.1.1.1)
 said_at (command.Allow allowance) old new text a h =
     let i = allows old new allowance a h.1 in
@@ -125,7 +125,7 @@ lacked_at command.WritePpm old new text a h = short_at old new text a h
 lacked_at command.WriteNon old new text a h = short_at old new text a h.1
 lacked_at command.Report old new text a h = short_at old new text a h
 lacked_at command.Certify old new text a h = short_at old new text a h
-lacked_at (command.Assess is_named) old new text a h = short_at old new text a h
+lacked_at (command.Assess is_off) old new text a h = short_at old new text a h
 lacked_at command.Path old new text a h = short_at old new text a h
 lacked_at (command.Allow allowance) old new text a h = absurd h
 

@@ -237,7 +237,7 @@ said_told command.Report old new text a h =
     ((map_of old a, inl (verdict, (true_verdict old new verdict a h.1.0, shown))), ap machine_of h.1.0.0.1.1.same)
 said_told command.Certify old new text a h =
     ((map_of old a, inl (certified old.history.document h.0 text h.1.0 h.1.1.0)), ap machine_of h.1.1.1.0.same)
-said_told (command.Assess is_named) old new text a h =
+said_told (command.Assess is_off) old new text a h =
     ((map_of old a, inl (h.0, (h.1.0, h.1.1.0))), ap machine_of h.1.1.1)
 said_told command.Path old new text a h = ((map_of old a, inl (h.0, (h.1.0, h.1.1.0))), ap machine_of h.1.1.1)
 said_told (command.Allow allowance) old new text a h = (h.0, ap machine_of h.1)
@@ -254,7 +254,7 @@ lacked_told command.WritePpm old new text a h = ((map_of old a, inr h.0), ap mac
 lacked_told command.WriteNon old new text a h = ((map_of old a, inr (h.0, inr h.1.0)), ap machine_of h.1.1)
 lacked_told command.Report old new text a h = ((map_of old a, inr h.0), ap machine_of h.1)
 lacked_told command.Certify old new text a h = ((map_of old a, inr h.0), ap machine_of h.1)
-lacked_told (command.Assess is_named) old new text a h = ((map_of old a, inr h.0), ap machine_of h.1)
+lacked_told (command.Assess is_off) old new text a h = ((map_of old a, inr h.0), ap machine_of h.1)
 lacked_told command.Path old new text a h = ((map_of old a, inr h.0), ap machine_of h.1)
 lacked_told (command.Allow allowance) old new text a h = absurd h
 

@@ -40,7 +40,7 @@ after_command m command.WritePpm = m
 after_command m command.WriteNon = m
 after_command m command.Report = m
 after_command m command.Certify = m
-after_command m (command.Assess is_named) = m
+after_command m (command.Assess is_off) = m
 after_command m command.Path = m
 after_command m (command.Allow allowance) = machine m.history allowance
 

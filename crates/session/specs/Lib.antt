@@ -1,3 +1,4 @@
+pub mod Allowing
 pub mod Answer
 pub mod Laws
 pub mod Refusal

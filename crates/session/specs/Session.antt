@@ -30,6 +30,7 @@ use Rattle.report_text.specs.ClueText.{clues_text}
 use Rattle.command_text.specs.Faults.{name_of}
 use Rattle.command_text.specs.Lines.{ended_lines_of, lines_of, request_of}
 use Rattle.command_text.specs.Words.{Texts}
+use Rattle.session.specs.Allowing.{assess_allowance}
 use Rattle.session.specs.Refusal.{edit_line, memory_line, refused}
 use Rattle.assess_text.specs.AssessmentText.{assessment_text}
 use Rattle.session.specs.Texts.{certified_text, content, done_text, path_shown, verdict_text, verdict_word, why_text}
@@ -90,7 +91,7 @@ IsShort (command.Why row col colour) old text new =
 IsShort command.WritePpm old text new = LacksMemory old text new
 IsShort command.WriteNon old text new = (is_two_colour old.history.document.rows ≡ true) × LacksMemory old text new
 IsShort command.Report old text new = LacksMemory old text new
-IsShort (command.Assess is_named) old text new = LacksMemory old text new
+IsShort (command.Assess is_off) old text new = LacksMemory old text new
 IsShort command.Path old text new = LacksMemory old text new
 IsShort command.Certify old text new = LacksMemory old text new
 IsShort (command.Allow allowance) old text new = ⊥
@@ -115,8 +116,8 @@ SaysTo old command.Report text new = (verdict : Verdict) × (JudgesAs old new ve
 SaysTo old command.Certify text new =
     (found : Option Certificate)
     × (Certifies old.history.document found × ((text ≡ certified_text found) × (Learns old new × IsAudited new)))
-SaysTo old (command.Assess is_named) text new =
-    ShowsFound (IsAssessmentOf old.history.document is_named old.allowance) assessment_text old text new
+SaysTo old (command.Assess is_off) text new =
+    ShowsFound (IsAssessmentOf old.history.document (assess_allowance is_off old.allowance)) assessment_text old text new
 SaysTo old command.Path text new = ShowsFound (IsPathOf old.history.document) path_shown old text new
 SaysTo old (command.Allow allowance) text new = (text ≡ done_text) × (new ≡ record old { allowance = allowance })
 

@@ -44,6 +44,7 @@ use Rattle.command_text.specs.declared.session_fault.SessionFault.{SessionFault}
 use Rattle.command_text.specs.declared.session_fault.SessionFault.TheVariants as fault
 use Rattle.command_text.specs.Lines.{ended_lines_of, lines_of, request_of}
 use Rattle.report_text.specs.ClueText.{clues_text}
+use Rattle.session.specs.Allowing.{assess_allowance}
 use Rattle.report_text.specs.ReasonText.{reason_text}
 use Rattle.report_text.specs.Report.{report_text}
 use Rattle.report_text.specs.Shown.{map_text}
@@ -148,8 +149,8 @@ IsShown h allowance m command.Report text = OrMemory text ((verdict : Verdict)
     × (IsTrueVerdict h.document m.map allowance verdict × (text ≡ report_text h.document
     (clues_of h.document.rows) m.map (verdict_word verdict) (length h.past) (length h.future))))
 IsShown h allowance m command.Certify text = OrMemory text (TellsProof h.document text)
-IsShown h allowance m (command.Assess is_named) text = OrMemory text ((found : Assessment)
-    × (IsAssessmentOf h.document is_named allowance found × (text ≡ assessment_text found)))
+IsShown h allowance m (command.Assess is_off) text = OrMemory text ((found : Assessment)
+    × (IsAssessmentOf h.document (assess_allowance is_off allowance) found × (text ≡ assessment_text found)))
 IsShown h allowance m command.Path text =
     OrMemory text ((path : Path) × (IsPathOf h.document path × (text ≡ path_shown path)))
 IsShown h allowance m c text = ⊥

@@ -20,13 +20,14 @@ ghost use Rattle.live_audit.specs.Calls.{IsAsBefore, Learns};
 ghost use Rattle.live_audit.specs.Bench.{IsAudited};
 ghost use Rattle.session.specs.Answer.{GivesNon, IsAsked, answer_text, stroke_said, text_said};
 ghost use Rattle.session.specs.Room.{verdict_room};
+ghost use Rattle.session.specs.Allowing.{assess_allowance};
 ghost use Rattle.session.specs.Session.{Replies, Says, report_on};
 ghost use Rattle.session.specs.Texts.{certified_text, path_shown, verdict_text, verdict_word, why_text};
 
 use crate::refusal::Refusal;
 use assess_text::push_assessment;
 use certificate::{Cert, write_cert};
-use command_text::{Command, Request};
+use command_text::{ASSESS_SPLITS, Command, Request};
 use edits::{Edit, EditFault};
 use grade_text::push_path;
 use line_facts::{Facts, LineEngine};
@@ -274,20 +275,33 @@ fn push_found(text: &mut Vec<u8>, found: &Option<Cert>) -> Result<(), AllocError
     }
 }
 
-// Whether the puzzle is fit to be published. `is_named` says whether its background was named.
+// The allowance of an assessment: none where it is taken away, else that of the session, or 10,000 splits.
+fn assess_allowance(is_off: bool, allowance: Option<u32>) -> Option<u32>
+    ensures { result ≡ assess_allowance is_off allowance }
+{
+    match (is_off, allowance) {
+        (true, _) => None,
+        (false, None) => Some(ASSESS_SPLITS),
+        (false, Some(splits)) => Some(splits),
+    }
+}
+
+// Whether the puzzle is fit to be published. `is_off` takes away the bound on splits.
 fn assessment_text<E: LineEngine + Drop, A: Agenda + Drop>(
     alloc: Global,
     bench: &mut Bench<E, A>,
-    is_named: bool,
+    is_off: bool,
 ) -> Result<Vec<u8>, AllocError>
     ensures text { IfOk result (λ text. (found : Assessment)
-        × (IsAssessmentOf bench.old.history.document is_named bench.old.allowance found
+        × (IsAssessmentOf bench.old.history.document
+        (assess_allowance is_off bench.old.allowance) found
         × (text.items ≡ assessment_text found))) }
     ensures as_before { IsAsBefore bench.old bench.new }
     ensures calls { bench.old.calls ≤ bench.new.calls }
 {
     let mut text = Vec::new(alloc);
-    let found = bench.assess(is_named)?;
+    let allowance = assess_allowance(is_off, bench.allowance());
+    let found = bench.assess(allowance)?;
     push_assessment(&mut text, &found)?;
     Ok(text)
 }
@@ -333,7 +347,7 @@ fn answer_command<E: LineEngine + Drop, A: Agenda + Drop>(
             Answer::Done
         }
         Command::Certify => text_answer(certificate_text(alloc, bench)),
-        Command::Assess { is_named } => text_answer(assessment_text(alloc, bench, is_named)),
+        Command::Assess { is_off } => text_answer(assessment_text(alloc, bench, is_off)),
         Command::Path => text_answer(path_text(alloc, bench)),
     }
 }

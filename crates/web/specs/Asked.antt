@@ -3,6 +3,8 @@ use Rattle.std.specs.Prelude.{ℕ, ◌==◌, ◌||◌, ◌&&◌, Bool, List, [],
 use Rattle.std.specs.Prelude.{if◌then◌else◌}
 use Rattle.std.specs.Option.{option_map}
 use Rattle.picture.specs.declared.rgb.Rgb.{Rgb}
+use Rattle.command_text.specs.Parse.{allowance_of}
+use Rattle.command_text.specs.declared.command.TheConstants.{ASSESS_SPLITS}
 use Rattle.program_options.specs.declared.assessing.AssessOptions.{AssessOptions}
 use Rattle.program_options.specs.declared.options.Options.{Options}
 use Rattle.program_options.specs.Background.{background_of}
@@ -27,21 +29,22 @@ options_asked non word history = options_with non history (background_asked word
 
 -- ---- assessments
 
--- an allowance of at most 99,999 splits; any other number stands for none
-abbrev pub allowance_asked : ℕ → Option ℕ
-allowance_asked allowance = if nat_lt 99999 allowance then None else Some allowance
+-- the allowance of a word: 10,000 splits if it is empty, `Some None` for `off`, None if it is no allowance
+abbrev pub allowance_asked : List ℕ → Option (Option ℕ)
+allowance_asked [] = Some (Some ASSESS_SPLITS)
+allowance_asked (b ∷ word) = allowance_of (b ∷ word)
 
-abbrev pub assess_options : Bool → Option Rgb → ℕ → AssessOptions
-assess_options non background allowance =
-    record { non = non; background = background; allowance = allowance_asked allowance }
+abbrev pub assess_options : Bool → Option Rgb → Option ℕ → AssessOptions
+assess_options non background allowance = record { non = non; background = background; allowance = allowance }
 
 -- the options with a background, which a .non text has none of
-abbrev pub assess_options_with : Bool → ℕ → Option (Option Rgb) → Option AssessOptions
+abbrev pub assess_options_with : Bool → List ℕ → Option (Option Rgb) → Option AssessOptions
 assess_options_with non allowance None = None
 assess_options_with non allowance (Some background) =
-    if non && is_some background then None else Some (assess_options non background allowance)
+    if non && is_some background then None
+    else option_map (assess_options non background) (allowance_asked allowance)
 
-abbrev pub assess_options_asked : Bool → List ℕ → ℕ → Option AssessOptions
+abbrev pub assess_options_asked : Bool → List ℕ → List ℕ → Option AssessOptions
 assess_options_asked non word allowance = assess_options_with non allowance (background_asked word)
 
 -- a text, if it is passed

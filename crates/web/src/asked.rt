@@ -5,11 +5,9 @@ ghost use Rattle.program_options.specs.Options.{IsLawful};
 ghost use Rattle.web.specs.Asked.{allowance_asked, assess_options_asked, background_asked, options_asked, text_if};
 
 use answers::{AssessOptions, Options, background_in};
+use command_text::{ASSESS_SPLITS, allowance_in};
 use edits::MAX_DEPTH;
 use picture::Rgb;
-
-// The largest allowance.
-const MOST_SPLITS: u32 = 99_999;
 
 /// The background of a word: `Some(None)` if it is empty, None if it is no colour.
 pub fn background_of(word: &[u8]) -> Option<Option<Rgb>>
@@ -37,30 +35,30 @@ pub fn options_of(non: bool, word: &[u8], history: u32) -> Option<Options>
     })
 }
 
-/// The options of an assessment. None where `word` is no colour, or names one for a .non text.
-pub fn assess_options_of(non: bool, word: &[u8], allowance: u32) -> Option<AssessOptions>
-    ensures { result ≡ assess_options_asked non word.now allowance }
+/// The options of an assessment. None where `word` is no colour, or names one for a .non text, or `allowance` is none.
+pub fn assess_options_of(non: bool, word: &[u8], allowance: &[u8]) -> Option<AssessOptions>
+    ensures { result ≡ assess_options_asked non word.now allowance.now }
 {
     let background = background_of(word)?;
     if non && background.is_some() {
         return None;
     }
+    let allowance = allowance_of(allowance)?;
     Some(AssessOptions {
         non,
         background,
-        allowance: allowance_of(allowance),
+        allowance,
     })
 }
 
-// An allowance of at most 99,999 splits. Any other number stands for none.
-fn allowance_of(allowance: u32) -> Option<u32>
-    ensures { result ≡ allowance_asked allowance }
+// The allowance of a word: 10,000 splits if it is empty, `Some(None)` for `off`, None if it is no allowance.
+fn allowance_of(word: &[u8]) -> Option<Option<u32>>
+    ensures { result ≡ allowance_asked word.now }
 {
-    if allowance > MOST_SPLITS {
-        None
-    } else {
-        Some(allowance)
+    if word.is_empty() {
+        return Some(Some(ASSESS_SPLITS));
     }
+    allowance_in(word)
 }
 
 /// A text, if it is passed.

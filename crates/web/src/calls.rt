@@ -176,7 +176,7 @@ pub extern "C" fn nonobench_prove(held: &mut Held, file: &[u8], background: &[u8
 }
 
 /// Assesses a puzzle: a P3 text, or a .non text with a goal. The texts of its givens and of its certificate count where they are
-/// passed, an allowance where it is at most 99,999. The block, which ends with `fit` or `unfit`, or an error, is the text.
+/// passed. `allowance` is a word: 0 to 99999 splits, `off` for no bound, or empty for 10,000. The block, which ends with `fit` or `unfit`, or an error, is the text.
 #[unsafe(no_mangle)]
 pub extern "C" fn nonobench_assess(
     held: &mut Held,
@@ -187,12 +187,12 @@ pub extern "C" fn nonobench_assess(
     givens: &[u8],
     has_cert: bool,
     cert: &[u8],
-    allowance: u32,
+    allowance: &[u8],
 ) -> u32
-    ensures assesses { IfSome (assess_options_asked non background.now allowance) (λ options.
+    ensures assesses { IfSome (assess_options_asked non background.now allowance.now) (λ options.
         AssessesBy file.now (text_if has_givens givens.now) (text_if has_cert cert.now) options
         held.new.desk.text.items result) }
-    ensures refused { assess_options_asked non background.now allowance ≡ None
+    ensures refused { assess_options_asked non background.now allowance.now ≡ None
         → IsUnasked held.old.desk held.new.desk result }
     ensures kept { IsKept held.old.desk held.new.desk }
 {

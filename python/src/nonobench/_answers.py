@@ -194,8 +194,8 @@ class Grade(NamedTuple):
 
 
 class Flaw(NamedTuple):
-    """Why a puzzle is not fit to be published: `blank`, `background`, `given` or `spare` with a
-    cell, `alike` with two colours' letters."""
+    """Why a puzzle is not fit to be published: `blank`, `background`, `given` with a cell, `alike`
+    with two colours' letters."""
 
     kind: str
     place: Optional[Given] = None
@@ -219,9 +219,6 @@ class Assessment:
     open: int
     grade: Optional[Grade]
     flaws: tuple[Flaw, ...]
-    unknown: Optional[
-        Given
-    ]  # a given of which the allowance leaves open whether the puzzle needs it
     is_fit: bool
     text: str
     named: tuple[Given, ...] = ()  # the givens that the certificate names, where one is passed
@@ -231,9 +228,8 @@ FLAW_KINDS = ("blank", "background", "given", "alike", "any")
 
 
 def refused_flaws(flaws: Iterable[str], kinds: Iterable[str]) -> list[str]:
-    """The flaws, by their words, that somebody refuses who allows some kinds. `given` allows
-    `spare` too."""
-    allowed = {*kinds, *(("spare",) if "given" in kinds else ())}
+    """The flaws, by their words, that somebody refuses who allows some kinds."""
+    allowed = {*kinds}
     return [] if "any" in allowed else [flaw for flaw in flaws if flaw.split(" ")[0] not in allowed]
 
 
@@ -283,7 +279,6 @@ def assessment_of(text: str, named: tuple[Given, ...] = ()) -> Assessment:
         int(found["open"][0]),
         None if grade is None else Grade(grade[0], *map(int, grade[1:])),
         tuple(_flaw(words[1:]) for words in lines if words[0] == "flaw"),
-        Given(*map(int, found["unknown"][1:])) if "unknown" in found else None,
         lines[-1] == ["fit"],
         text,
         named,

@@ -33,7 +33,6 @@ Colour = tuple[int, int, int]
 # How many bytes a picture, a certificate or a file of givens has at the most, as for the program.
 MOST_BYTES = 16_777_216
 MOST_ALLOWANCE = 99_999
-NO_ALLOWANCE = 2**32 - 1
 MOST_CELLS = 120  # of a side
 MOST_SAMPLE = 65535
 
@@ -99,25 +98,24 @@ class Questions:
         certificate: Optional[Bytes] = None,
         background: Optional[Colour] = None,
         published: Published = (),
-        allowance: Optional[int] = None,
+        allowance: Union[int, str, None] = None,
         non: bool = False,
     ) -> Assessment:
         """Whether a puzzle is fit to be published: its verdict, its grade and its flaws. It is a P3
         text, or (`non`) a .non text.
 
-        A background that is passed counts as named. The published cells and the certificate are as
-        in `check`; with a certificate the checker says what is unique, and nothing is searched.
-        Otherwise the allowance bounds each search, as in `verdict`.
+        The published cells and the certificate are as in `check`; a certificate takes the place of
+        the search for another solution. The allowance is how many splits the search of a part may
+        make: 10,000 without one, or 0 to 99,999, or "off" for no bound.
         """
         puzzle, by = bytes_of(puzzle), None if certificate is None else bytes_of(certificate)
         givens = _file_of(givens_of(by or b"") if isinstance(published, AnyGiven) else published)
-        _allow(allowance)
+        bound = _bound(allowance)
         if not isinstance(non, int):
             raise TypeError(f"non must be True or False, not {type(non).__name__}")
         if non and background is not None:
             raise ValueError("background goes with a P3 text")
-        numbers = (non, NO_ALLOWANCE if allowance is None else allowance, by is not None)
-        rest = b"%d %d %d\n" % numbers + (by or b"")
+        rest = b"%d %d %s\n" % (non, by is not None, bound) + (by or b"")
         try:
             (text,) = self._ask(ASSESS, puzzle, background, rest, givens or b"")
         except GivensFault:
@@ -281,6 +279,15 @@ def _file_of(published: Published) -> Optional[bytes]:
         raise TypeError(
             "published must be pairs of row and column, a file's bytes, or ANY_GIVEN"
         ) from None
+
+
+def _bound(allowance: Union[int, str, None]) -> bytes:
+    """The word of an assessment's allowance; empty where there is none."""
+    if isinstance(allowance, str):
+        if allowance != "off":
+            raise ValueError('allowance must be 0 to 99999 or "off"')
+        return b"off"
+    return b"" if allowance is None else _allow(allowance).split()[1]
 
 
 def _allow(allowance: Optional[int]) -> bytes:

@@ -71,7 +71,7 @@ def _kinds() -> dict[str, tuple[Any, list[Any]]]:
                 *bytes_of,
                 ctypes.c_bool,
                 *bytes_of,
-                number,
+                *bytes_of,
             ],
         ),
     }
@@ -159,7 +159,7 @@ class Desk:
         background: bytes,
         givens: bytes,
         certificate: bytes | None,
-        allowance: int,
+        allowance: bytes,
     ) -> int:
         """Assesses a puzzle, by a certificate where there is one, and answers the status."""
         held, is_by = certificate or b"", certificate is not None
@@ -178,6 +178,7 @@ class Desk:
                 held,
                 len(held),
                 allowance,
+                len(allowance),
             )
         )
 

@@ -38,8 +38,8 @@ def answer(
     kind: int, picture: bytes, background: bytes, rest: bytes, givens: bytes
 ) -> tuple[int, list[bytes]]:
     """The status, and the texts that were said. `rest` is the certificate, or the lines. For an
-    assessment it is a line of numbers (1 for a .non text, the allowance, 1 where there is a
-    certificate), and then the certificate.
+    assessment it is a line of words (1 for a .non text, 1 where there is a certificate, the
+    allowance if there is one), and then the certificate.
     """
     with Desk() as desk:
         return answer_on(desk, kind, picture, background, rest, givens)
@@ -55,9 +55,9 @@ def answer_on(
         status = desk.prove(picture, background)
     elif kind == ASSESS:
         words, _, certificate = rest.partition(b"\n")
-        non, allowance, is_by = map(int, words.split())
-        by = certificate if is_by else None
-        status = desk.assess(picture, bool(non), background, givens, by, allowance)
+        non, is_by, *allowance = words.split()
+        by = certificate if is_by == b"1" else None
+        status = desk.assess(picture, non == b"1", background, givens, by, b"".join(allowance))
     else:
         return _answer_of_bench(desk, picture, background, rest)
     return status, [desk.text()]

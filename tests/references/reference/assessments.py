@@ -10,7 +10,7 @@ from functools import lru_cache
 import plain_forms
 
 from .lines import base_of, clues_of, close, letter, narrow
-from .search import pictures_with
+from .search import open_cells, pictures_with
 
 TEXT = re.compile(
     r"""(unique|undecided|ambiguous)
@@ -21,7 +21,7 @@ open N
 (grade (unknown N N N|(easy|medium|hard|very-hard|expert) N N N (?P<splits>N) (?P<depth>N))
 )?(flaw blank
 )?(flaw background
-)?((flaw given|unknown given|flaw spare) N N
+)?(flaw given N N
 )?(flaw alike [.a-o] [.a-o]
 )*(fit|unfit)
 """.replace(
@@ -162,25 +162,23 @@ def by_listing(rows):
 
 class Assessment:
     """What is said of a document. With a certificate, which the checker must accept with the givens
-    as published, nothing is searched, and `verdict` is not called."""
+    as published, `verdict` is not called."""
 
-    def __init__(self, document, named, verdict, certificate=None):
+    def __init__(self, document, verdict, certificate=None):
         self.document = document
-        self.named = named
-        self.verdict = verdict
-        self.certificate = certificate
         self.solving = Solving(document.rows, document.givens)
         self.open = self.solving.open()
         self.seen = set().union(*document.rows)
         if certificate is None:
-            self.word, self.guesses = verdict(document.givens), None
+            self.word = verdict(document.givens)
         else:
-            self.word, self.guesses = 'unique', guesses_of(document, certificate)
+            guesses_of(document, certificate)  # raises what is wrong with it
+            self.word = 'unique'
 
     def lines(self, other=(), guesses=None):
         """All lines. `other` are the rows of another picture, and `guesses` the splits and the
-        depth of the certificate from which the grade is taken, if one is found; each counts only
-        where it is asked for."""
+        depth of the tree from which the grade is taken, if one is found; each counts only where it
+        is asked for."""
         return [
             self.word,
             *(other if self.word == 'ambiguous' else ()),
@@ -192,8 +190,7 @@ class Assessment:
     def end(self):
         """The lines behind the grade."""
         flaws = self.flaws()
-        is_fit = self.word == 'unique' and not any(flaw.startswith('flaw') for flaw in flaws)
-        return [*flaws, 'fit' if is_fit else 'unfit']
+        return [*flaws, 'fit' if self.word == 'unique' and not flaws else 'unfit']
 
     def sizes(self):
         """The lines of numbers."""
@@ -210,7 +207,7 @@ class Assessment:
         if self.word != 'unique':
             return []
         solving = self.solving
-        guesses = self.guesses or guesses if self.open else (0, 0)
+        guesses = guesses if self.open else (0, 0)
         figures = f'{solving.rounds} {solving.looks} {solving.wait}'
         if guesses is None:
             return [f'grade unknown {figures}']
@@ -220,46 +217,33 @@ class Assessment:
         ]
 
     def flaws(self):
-        """The lines of flaws, and that of a given of which nothing is known."""
+        """The lines of flaws."""
         lines = ['flaw blank'] if self.seen == {0} else []
-        if self.named and 0 not in self.seen:
+        if 0 not in self.seen:
             lines.append('flaw background')
-        if self.certificate is not None:
-            lines += self.spare()
-        elif self.word == 'unique':
+        if self.word == 'unique':
             lines += self.given()
         return lines + [
             f'flaw alike {letter(one)} {letter(other)}' for one, other in alike(self.document)
         ]
 
     def given(self):
-        """The first given without which there is still one solution, or else the first for which
-        that is left open."""
-        givens = self.document.givens
-        left_open = []
+        """The first given without which there is still one solution, and line logic leaves the same
+        cells open."""
+        rows, givens = self.document.rows, self.document.givens
+        clues, size = clues_of(rows), (len(rows), len(rows[0]))
+        before = open_cells(close(clues, base_of(rows, givens)))
         for row, col in sorted(givens):
-            word = self.verdict(givens - {(row, col)})
-            if word == 'unique':
+            left = close(clues, base_of(rows, givens - {(row, col)}))
+            if open_cells(left) == before and len(pictures_with(clues, *size, left, 2)) == 1:
                 return [f'flaw given {row + 1} {col + 1}']
-            if word == 'undecided' and not left_open:
-                left_open = [f'unknown given {row + 1} {col + 1}']
-        return left_open
-
-    def spare(self):
-        """The first published cell that the certificate does not name."""
-        _, named, _, _ = plain_forms.read_certificate(self.certificate)
-        spare = [
-            (row + 1, col + 1)
-            for row, col in sorted(self.document.givens)
-            if (row + 1, col + 1) not in named
-        ]
-        return [f'flaw spare {row} {col}' for row, col in spare[:1]]
+        return []
 
 
 def guesses_of(document, certificate):
-    """The splits of a certificate that proves a document with its givens, and their depth; or the
-    certificate's fault."""
+    """The splits and the depth of a tree that proves a document with its givens, and None of
+    another such certificate; or raises the certificate's fault."""
     published = {(row + 1, col + 1) for row, col in document.givens}
     return plain_forms.check(plain_forms.Puzzle(document.ordered().rows), certificate, published)[
-        1:
+        1
     ]

@@ -388,7 +388,7 @@ def some_command(chance, height, width, triples, heed):
         (3, 1, lambda: ('certify',)),
         (1, 0, lambda: ('write ppm',)),
         (1, 0, lambda: ('write non',)),
-        (3, 4, lambda: ('assess', *chance.choice(((), (), ('named',), ('name',))))),
+        (3, 4, lambda: ('assess', *chance.choice(((), (), ('off',), ('of',))))),
         (2, 0, lambda: ('path',)),
         (
             3,

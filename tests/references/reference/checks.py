@@ -14,7 +14,7 @@ def answer(picture, text, background):
         rows = read_ppm(picture, background).rows
         kind, unit = 'certificate', 'line'
         if text.startswith(b'nonolemma'):
-            givens, _, _ = plain_forms.check(plain_forms.Puzzle(rows), text)
+            givens, _ = plain_forms.check(plain_forms.Puzzle(rows), text)
         else:
             givens = check_cert(rows, read_cert(text))
     except (Fault, plain_forms.Fault) as fault:

@@ -28,7 +28,7 @@ TABLE = {
     ('why',): (PLACE, PLACE, COLOUR),
     ('certify',): (),
     ('assess',): (),
-    ('assess', 'named'): (),
+    ('assess', 'off'): (),
     ('path',): (),
     ('write', 'ppm'): (),
     ('write', 'non'): (),

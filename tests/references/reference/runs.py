@@ -142,10 +142,9 @@ class Puzzle:
                 )
                 document.givens = {(row - 1, col - 1) for row, col in places}
             session = Session(document, 1, most_splits(document))
-            session.allowance = allowance
             kind = 'certificate'
             assessment = Assessment(
-                document, self.background is not None, session.verdict_on, self.cert
+                document, lambda givens: session.verdict_on(givens, allowance), self.cert
             )
         except (Fault, plain_forms.Fault) as fault:
             output.must_lines(

@@ -186,16 +186,16 @@ SESSIONS = (
     (
         '.a./aa./...',
         (
-            'path|assess  name|assess named now|assess name now|path now|paint 2 1 .|paint 1 1'
+            'path|assess  of|assess off now|assess of now|path now|paint 2 1 .|paint 1 1'
             ' a|delete row 3|delete column 3|paint 1 2 .|path|allow 0|assess|pin 1'
-            ' 1|path|assess|allow off|assess named'
+            ' 1|path|assess|allow off|assess off'
         ),
         (
             'r 2 1 1 2=a|r 3 1 3 1=. 2=. 3=.|c 2 1 1 1=a|c 3 1 2 1=. 2=.|r 1 2 1 1=.|r 2 2 1'
             ' 1=a|open 0|refused: UnknownWord|refused: WordCount|refused: UnknownWord|refused:'
             ' WordCount|ok|ok|ok|ok|ok|open 4|ok|undecided|size 2 2|colours 2|givens 0|open'
             ' 4|unfit|ok|r 1 1 1 2=.|c 1 1 1 2=.|c 2 1 1 2=a|open 0|unique|size 2 2|colours'
-            ' 2|givens 1|open 0|grade easy 1 4 2 0 0|unknown given 1 1|fit|ok|unique|size 2'
+            ' 2|givens 1|open 0|grade easy 1 4 2 0 0|fit|ok|unique|size 2'
             ' 2|colours 2|givens 1|open 0|grade easy 1 4 2 0 0|fit'
         ),
     ),
@@ -250,52 +250,46 @@ def test_answers():
     )
 
 
-# Pictures, capitals and commas for givens, and what their assessment says, the background named in
-# some.
+# Pictures, capitals and commas for givens, and what their assessment says.
 ASSESSED = (
-    ('aaa/a.a/aaa', False, 'unique|size 3 3|colours 2|givens 0|open 0|grade easy 1 3 1 0 0|fit'),
-    ('a./.a', False, 'ambiguous|.a|a.|size 2 2|colours 2|givens 0|open 4|unfit'),
-    ('A./.a', True, 'unique|size 2 2|colours 2|givens 1|open 0|grade easy 1 4 2 0 0|fit'),
+    ('aaa/a.a/aaa', 'unique|size 3 3|colours 2|givens 0|open 0|grade easy 1 3 1 0 0|fit'),
+    ('a./.a', 'ambiguous|.a|a.|size 2 2|colours 2|givens 0|open 4|unfit'),
+    ('A./.a', 'unique|size 2 2|colours 2|givens 1|open 0|grade easy 1 4 2 0 0|fit'),
     (
         'A./.A',
-        False,
         'unique|size 2 2|colours 2|givens 2|open 0|grade easy 1 2 1 0 0|flaw given 1 1|unfit',
     ),
     (
         'A,/,A',
-        False,
         'unique|size 2 2|colours 2|givens 4|open 0|grade easy 0 0 0 0 0|flaw given 1 1|unfit',
     ),
     (
         '../..',
-        True,
         'unique|size 2 2|colours 1|givens 0|open 0|grade easy 0 0 0 0 0|flaw blank|unfit',
     ),
-    ('aa', False, 'unique|size 1 2|colours 1|givens 0|open 0|grade easy 1 1 1 0 0|fit'),
     (
         'aa',
-        True,
         'unique|size 1 2|colours 1|givens 0|open 0|grade easy 1 1 1 0 0|flaw background|unfit',
     ),
     # Without either given, two of the three can change places.
-    ('A../.a./..A', False, 'unique|size 3 3|colours 2|givens 2|open 0|grade easy 1 6 2 0 0|fit'),
+    ('A../.a./..A', 'unique|size 3 3|colours 2|givens 2|open 0|grade easy 1 6 2 0 0|fit'),
 )
 # The same with certificates, `|` for line feeds.
 CERTIFIED = (
     (
         'A./.A',
         'nonocert 2|given 1 1|line r 1|line c 1|line r 2|done|',
-        'unique|size 2 2|colours 2|givens 2|open 0|grade easy 1 2 1 0 0|flaw spare 2 2|unfit',
+        'unique|size 2 2|colours 2|givens 2|open 0|grade easy 1 2 1 0 0|flaw given 1 1|unfit',
     ),
     (
         'A./.A',
         'nonocert 2|given 1 1|given 2 2|line r 1|line r 2|done|',
-        'unique|size 2 2|colours 2|givens 2|open 0|grade easy 1 2 1 0 0|fit',
+        'unique|size 2 2|colours 2|givens 2|open 0|grade easy 1 2 1 0 0|flaw given 1 1|unfit',
     ),
     (
         'A./.A',
         'nonolemma 2|given 2 2|line r2 c2 r1|done|',
-        'unique|size 2 2|colours 2|givens 2|open 0|grade easy 1 2 1 0 0|flaw spare 1 1|unfit',
+        'unique|size 2 2|colours 2|givens 2|open 0|grade easy 1 2 1 0 0|flaw given 1 1|unfit',
     ),
     (
         '.aa./a..a/a..a',
@@ -342,12 +336,13 @@ def document_of(text):
 def test_assessments():
     """Assessments with and without certificates, similar colours, and a certificate that names a
     cell which is not given."""
-    for text, named, wanted in ASSESSED:
+    for text, wanted in ASSESSED:
         document = document_of(text)
-        got = Assessment(document, named, by_listing(document.rows)).lines(('.a', 'a.'))
+        got = Assessment(document, by_listing(document.rows)).lines(('.a', 'a.'))
         must(got, wanted.split('|'), f'the assessment of {text}')
     for text, cert, wanted in CERTIFIED:
-        got = Assessment(document_of(text), False, None, cert.replace('|', '\n').encode()).lines()
+        by = cert.replace('|', '\n').encode()
+        got = Assessment(document_of(text), None, by).lines(guesses=(1, 1))
         must(got, wanted.split('|'), f'the assessment of {text} with a certificate')
     for one, other, maxval, wanted in SIMILAR:
         must(
@@ -358,7 +353,6 @@ def test_assessments():
     try:
         Assessment(
             document_of('A./.a'),
-            False,
             None,
             b'nonocert 2\ngiven 2 2\nline r 2\nline c 2\nline r 1\ndone\n',
         )

@@ -270,19 +270,24 @@ class Session:
         """The path of line logic."""
         output.must_lines(*Solving(self.document.rows, self.document.givens).path_lines())
 
-    def say_assess_named(self, output):
-        """The assessment of a document whose background counts as named."""
-        self.say_assess(output, True)
+    def say_assess_off(self, output):
+        """The assessment without an allowance."""
+        self.assess(output, None)
 
-    def say_assess(self, output, named=False):
-        """The assessment. What was found before does not count."""
-        self.ungraded += must_assess(
-            output, Assessment(self.document, named, self.verdict_on), self.must_be_other
+    def say_assess(self, output):
+        """The assessment under the allowance that is set, or under 10000 splits."""
+        self.assess(output, 10000 if self.allowance is None else self.allowance)
+
+    def assess(self, output, allowance):
+        """An assessment. What was found before does not count."""
+        assessment = Assessment(
+            self.document, lambda givens: self.verdict_on(givens, allowance)
         )
+        self.ungraded += must_assess(output, assessment, self.must_be_other)
 
-    def verdict_on(self, givens):
-        """The verdict on the picture with other givens."""
-        return Keeper(Scene(self.document.rows, givens)).judge(self.allowance, self.most)
+    def verdict_on(self, givens, allowance):
+        """The verdict on the picture with some givens."""
+        return Keeper(Scene(self.document.rows, givens)).judge(allowance, self.most)
 
     def say_write_ppm(self, output):
         """The picture as a P3 text."""

@@ -134,7 +134,7 @@ def _judged(question: Question, options: Options) -> Row:
     ignored = [*question.ignored, *picture.ignored]
     if ignored:
         row["ignored"] = ignored
-    if row["verdict"] == "undecided" or "unknown" in row:
+    if row["verdict"] == "undecided":
         row["limit"] = options.limit()
     return row
 
@@ -144,8 +144,6 @@ def _figures(said: Assessment, flaws: list[str]) -> Row:
     row: Row = {"rows": said.rows, "columns": said.columns, "open": said.open, **graded(said)}
     if flaws:
         row["flaws"] = flaws
-    if said.unknown:
-        row["unknown"] = list(said.unknown)
     return row
 
 

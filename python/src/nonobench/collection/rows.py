@@ -104,7 +104,6 @@ FLAWS = {
     "blank": "blank pictures",
     "background": "backgrounds that no cell has",
     "given": "givens that are not needed",
-    "spare": "givens that their certificate does not name",
     "alike": "colours that look alike",
 }
 REFUSED = "certificates not accepted"
@@ -169,12 +168,11 @@ FLAW_WORDS = {
     "blank": "the picture is blank",
     "background": "no cell has its background",
     "given": "given {} {} is not needed",
-    "spare": "given {} {} is not named by its certificate",
 }
 
 
 def flaw_words(row: Row) -> list[str]:
-    """The flaws of a puzzle, and what is not known."""
+    """The flaws of a puzzle."""
     flaws = [flaw.split(" ") for flaw in row.get("flaws", ())]
     words = [
         FLAW_WORDS.get(kind, " ".join([kind, *more])).format(*more)
@@ -188,8 +186,6 @@ def flaw_words(row: Row) -> list[str]:
     ]
     if pairs:
         words.append(f"colours look alike: {', '.join(pairs)}")
-    if "unknown" in row:
-        words.append("it is not known whether given {} {} is needed".format(*row["unknown"]))
     return words
 
 

@@ -1,10 +1,6 @@
-use Rattle.std.proofs.Common.{◌≡◌, List, Option, Some, arith, subst, sym}
+use Rattle.std.proofs.Common.{arith}
 use Rattle.std.proofs.lemmas.Result.{err_from_is_err_and}
-use Rattle.cert_text.specs.declared.cert_line.CellNumber.{CellNumber}
-use Rattle.grade.specs.declared.figures.Figures.{Figures}
-use Rattle.grade.specs.declared.word.Grade.{Grade}
-use Rattle.assess.specs.AssessedBy.{HasGradeBy, IsRefused, IsUnnamed}
-use Rattle.assess.specs.Grades.{IsGradeBy}
+use Rattle.assess.specs.AssessedBy.{IsRefused}
 use Rattle.assess.proofs.JudgeLemmas.{few_by}
 use Rattle.assess.proofs.assessing.assess_by.Goals as goal
 
@@ -21,32 +17,30 @@ returns-in_err-check_published-clause-assessment g c =
     let refused : IsRefused d c.args.cert.now c.in_err-check_published.field-0.0 = c.in_err-check_published.ensures.first in
     rw (p.1, p.2) refused
 
+pub find_spare-requires : goal.find_spare-requires
+find_spare-requires g c =
+    let found = c.in_ok-looked.ensures.looked in
+    record {
+      book = found.book;
+      only = c.in_ok-check_published.ensures.unique;
+      mapped = (c.in_ok-looked.looked.map, found.map);
+      long = omega (arith, c.requires, c.check_published.ensures.same_longest, c.look.ensures.same_longest, c.grade.ensures.same_longest);
+    }
+
 pub returns-clause-assessment : goal.returns-clause-assessment
 returns-clause-assessment g c =
-    let d = c.args.document.now in
-    let cert = c.args.cert.now in
-    let found = c.described.result in
     let made = c.described.ensures in
-    let grade = c.in_ok-grade.grade in
-    let same_figures : found.figures ≡ c.in_ok-looked.looked.figures = made.figures in
-    let same_grade : found.grade ≡ Some grade = made.grade in
-    let same_spare : found.spare ≡ c.find_unnamed-spare.result = made.spare in
-    let spare : IsUnnamed d.givens cert.givens c.find_unnamed-spare.result =
-    subst (λ (named : List CellNumber). IsUnnamed d.givens named c.find_unnamed-spare.result) c.givens.ensures c.find_unnamed-spare.ensures in
-    let graded : IsGradeBy d.picture cert found.figures grade =
-    subst (λ (figures : Figures). IsGradeBy d.picture cert figures grade) (sym same_figures) c.in_ok-grade.ensures.grade in
     record {
       described = made.described;
       accepted = c.in_ok-check_published.ensures.first;
       unique = c.in_ok-check_published.ensures.unique;
       verdict = made.verdict;
-      grade = subst (λ (told : Option Grade). HasGradeBy d.picture cert found.figures told) (sym same_grade) graded;
-      none_made = made.cert;
-      spare = subst (IsUnnamed d.givens cert.givens) (sym same_spare) spare;
+      graded = rw (← made.figures, ← made.cert, ← made.grade) at c.in_ok-graded.ensures.graded;
+      spare = rw (← made.spare) at c.in_ok-spare.ensures.spare;
     }
 
 pub returns-clause-few : goal.returns-clause-few
 returns-clause-few g c =
     let d = c.args.document.now in
     let found = c.in_ok-looked.ensures in
-    few_by d.picture d.givens c.args.cert.now c.in_ok-looked.looked.figures _ _ _ _ found.looked.figures c.check_published.ensures.work found.few c.grade_by.ensures.few
+    few_by d.picture d.givens c.args.cert.now c.in_ok-looked.looked.figures _ _ _ _ _ found.looked.figures c.check_published.ensures.work found.few c.grade.ensures.few c.find_spare.ensures.few

@@ -9,6 +9,6 @@ returns-clause-described c = record {
   givens = c.len.ensures.value;
   figures = c.requires.figures;
   blank = ap not c.is_painted.ensures;
-  background = c.lacks_background.ensures;
+  background = ap not c.has_colour.ensures;
   alike = c.requires.alike;
 }

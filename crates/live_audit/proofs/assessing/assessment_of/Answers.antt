@@ -16,7 +16,7 @@ pub returns-clause-assessment : goal.returns-clause-assessment
 returns-clause-assessment g c =
     let d = c.args.document.now in
     let parts : IsDocumentOf (design_of d) d = record { parts = refl; givens = record { set = c.has.ensures.set; are = marks_are_givens d.picture d.givens d.inside } } in
-    of_document d (λ document. IsAssessment document c.args.is_named c.args.allowance) c.assess.result parts c.assess.ensures.assessment
+    of_document d (λ document. IsAssessment document c.args.allowance) c.assess.result parts c.assess.ensures.assessment
 
 pub returns-clause-few : goal.returns-clause-few
 returns-clause-few g c =

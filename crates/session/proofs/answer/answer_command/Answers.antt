@@ -65,7 +65,7 @@ pub returns-in-Assess : goal.returns-in-Assess
 returns-in-Assess g c =
     let e = c.assessment_text.ensures in
     rw (c.in-Assess.is, c.text_answer-in-Assess.ensures)
-    (replies_assess c.args.bench.now c.assessment_text.new.bench c.in-Assess.is_named c.assessment_text.result e.as_before e.calls e.text)
+    (replies_assess c.args.bench.now c.assessment_text.new.bench c.in-Assess.is_off c.assessment_text.result e.as_before e.calls e.text)
 
 pub returns-in-Path : goal.returns-in-Path
 returns-in-Path g c =
