@@ -60,7 +60,7 @@ const DEPTH: u16 = 100;
 ///
 /// Files, certificate, givens, format, background, history and allowance are those of the words, as the parser reads them. Help
 /// and version are a task where nothing else is asked for. The errors are `Words`, which carries the parser's text, `HelpBeside`,
-/// `Background`, `BackgroundOfNon`, `OneFile` and `Memory`.
+/// `Background`, `BackgroundOfNon`, `Allowance`, `OneFile` and `Memory`.
 pub fn read_words<'a>(alloc: Global, words: &'a [&str]) -> Result<Task<'a>, ProgramFault>
     ensures none { words.entry.now ≡ [] → result ≡ Ok Clues }
     ensures lawful { IfOk result IsLawfulTask }

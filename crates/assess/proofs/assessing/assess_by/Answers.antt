@@ -1,5 +1,7 @@
-use Rattle.std.proofs.Common.{arith}
+use Rattle.std.proofs.Common.{◌+◌, ◌*◌, ◌≤◌, arith}
 use Rattle.std.proofs.lemmas.Result.{err_from_is_err_and}
+use Rattle.picture.specs.CellSet.{cell_count}
+use Rattle.second_search.specs.Evaluations.{most_to_close}
 use Rattle.assess.specs.AssessedBy.{IsRefused}
 use Rattle.assess.proofs.JudgeLemmas.{few_by}
 use Rattle.assess.proofs.assessing.assess_by.Goals as goal
@@ -44,3 +46,17 @@ returns-clause-few g c =
     let d = c.args.document.now in
     let found = c.in_ok-looked.ensures in
     few_by d.picture d.givens c.args.cert.now c.in_ok-looked.looked.figures _ _ _ _ _ found.looked.figures c.check_published.ensures.work found.few c.grade.ensures.few c.find_spare.ensures.few
+
+pub returns-in_err-spare-clause-few : goal.returns-in_err-spare-clause-few
+returns-in_err-spare-clause-few g c =
+    let d = c.args.document.now in
+    let found = c.in_ok-looked.ensures in
+    few_by d.picture d.givens c.args.cert.now c.in_ok-looked.looked.figures _ _ _ _ _ found.looked.figures c.check_published.ensures.work found.few c.grade.ensures.few c.find_spare.ensures.few
+
+pub returns-in_err-graded-clause-few : goal.returns-in_err-graded-clause-few
+returns-in_err-graded-clause-few g c =
+    let d = c.args.document.now in
+    let found = c.in_ok-looked.ensures in
+    let calls = g.E.LineEngine.calls c.grade.new.engine in
+    let none : calls ≤ calls + cell_count d.givens * most_to_close d.picture = omega arith in
+    few_by d.picture d.givens c.args.cert.now c.in_ok-looked.looked.figures _ _ _ calls _ found.looked.figures c.check_published.ensures.work found.few c.grade.ensures.few none
