@@ -24,12 +24,12 @@ from processes import children, is_running, seen  # noqa: E402
 
 import nonobench  # noqa: E402
 from nonobench import (  # noqa: E402
-    CertificateFault,
+    CertificateError,
     Given,
-    GivensFault,
-    LengthFault,
-    PictureFault,
-    UnpublishedGiven,
+    GivensError,
+    LengthError,
+    PictureError,
+    UnpublishedGivenError,
 )
 
 PACKAGE = Path(nonobench.__file__).resolve().parent.parent
@@ -79,12 +79,12 @@ class Workers(unittest.TestCase):
             sys.settrace(before)
         self.assertFalse(is_running(process.pid))
 
-    def test_answers_and_faults(self):
+    def test_answers_and_errors(self):
         with nonobench.Worker(seconds=300) as worker:
             self.assertEqual(
                 worker.check(DIAGONAL, GIVEN, published=[(1, 1)]).givens, (Given(1, 1),)
             )
-            with self.assertRaises(UnpublishedGiven) as caught:
+            with self.assertRaises(UnpublishedGivenError) as caught:
                 worker.check(DIAGONAL, GIVEN)
             self.assertEqual(caught.exception.givens, (Given(1, 1),))
             self.assertEqual(worker.clues(DIAGONAL), nonobench.clues(DIAGONAL))
@@ -100,17 +100,17 @@ class Workers(unittest.TestCase):
             self.assertEqual(
                 worker.check(DIAGONAL, LEMMAS, published=b"given 1 1\n").givens, (Given(1, 1),)
             )
-            with self.assertRaisesRegex(GivensFault, "^givens Place at line 1$"):
+            with self.assertRaisesRegex(GivensError, "^givens Place at line 1$"):
                 worker.check(DIAGONAL, LEMMAS, published=[(1, 3)])
-            with self.assertRaises(UnpublishedGiven) as caught:
+            with self.assertRaises(UnpublishedGivenError) as caught:
                 worker.check(DIAGONAL, LEMMAS)
             self.assertEqual((caught.exception.line, caught.exception.givens), (2, (Given(1, 1),)))
-            with self.assertRaises(LengthFault):
+            with self.assertRaises(LengthError):
                 worker.check(DIAGONAL, LEMMAS.ljust(16777217))
-            with self.assertRaises(CertificateFault) as caught:
+            with self.assertRaises(CertificateError) as caught:
                 worker.check(DIAGONAL, b"")
             self.assertEqual((caught.exception.name, caught.exception.line), ("NotCert", 1))
-            with self.assertRaisesRegex(PictureFault, "^ppm NotP3 at byte 0$"):
+            with self.assertRaisesRegex(PictureError, "^ppm NotP3 at byte 0$"):
                 worker.clues(b"")
             with self.assertRaises(ValueError):
                 worker.verdict(DIAGONAL, -1)
@@ -165,7 +165,7 @@ class Workers(unittest.TestCase):
         with nonobench.Worker(seconds=300, memory=40 << 20) as worker:
             with self.assertRaises(MemoryError):
                 worker.check(DIAGONAL, b" " * 16777216)
-        with nonobench.Worker(seconds=300) as worker, self.assertRaises(CertificateFault):
+        with nonobench.Worker(seconds=300) as worker, self.assertRaises(CertificateError):
             worker.check(DIAGONAL, b" " * 16777216)
         # The answer alone takes more than there is.
         for memory in (1, 20):
@@ -278,11 +278,11 @@ QUESTIONS = (
 
 
 def told(asked, name, *words):
-    """What somebody answers to a question, or the fault."""
+    """What somebody answers to a question, or the error."""
     try:
         return getattr(asked, name)(*words)
-    except nonobench.Fault as fault:
-        return str(fault)
+    except nonobench.NonobenchError as error:
+        return str(error)
 
 
 class Interrupts(unittest.TestCase):
@@ -345,7 +345,7 @@ class Interrupts(unittest.TestCase):
                     RuntimeError, f"^the worker answered question {number} instead of 2$"
                 ):
                     worker.check(TILE, b"junk", published=nonobench.ANY_GIVEN)
-                with self.assertRaisesRegex(CertificateFault, "NotCert"):
+                with self.assertRaisesRegex(CertificateError, "NotCert"):
                     worker.check(TILE, b"junk", published=nonobench.ANY_GIVEN)
 
     def test_what_a_handler_raises_is_raised(self):
@@ -416,7 +416,7 @@ class Interrupts(unittest.TestCase):
             while process.is_waiting():
                 time.sleep(0.01)
             # It even has the number of the next question.
-            with self.assertRaisesRegex(CertificateFault, "NotCert"):
+            with self.assertRaisesRegex(CertificateError, "NotCert"):
                 worker.check(TILE, b"junk", published=nonobench.ANY_GIVEN)
             self.assertNotEqual(worker._process.pid, process.pid)
 

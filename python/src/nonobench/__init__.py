@@ -1,12 +1,12 @@
 """Checks certificates of nonograms, and judges pictures.
 
-    result = nonobench.check(picture, certificate, published=[(1, 1)])   # raises a Fault if a file
-    is refused clues = nonobench.clues(picture) verdict = nonobench.verdict(picture, allowance=1000)
-    certificate = nonobench.certify(picture)                             # None if the puzzle has
-    several solutions audit = nonobench.audit(picture, allowance=1000)                     # both,
-    of one opened picture assessment = nonobench.assess(picture, allowance=1000)               #
-    whether it is fit to be published: grade and flaws certificate =
-    nonobench.prove(picture).certificate                   # with lemmas: where others are too long
+    result = nonobench.check(picture, certificate, published=[(1, 1)])  # raises a NonobenchError
+    clues = nonobench.clues(picture)
+    verdict = nonobench.verdict(picture, allowance=1000)
+    certificate = nonobench.certify(picture)  # None if the puzzle has several solutions
+    audit = nonobench.audit(picture, allowance=1000)  # both, of one opened picture
+    assessment = nonobench.assess(picture, allowance=1000)  # is it fit to be published?
+    certificate = nonobench.prove(picture).certificate  # with lemmas: where others are too long
 
 A picture is the bytes of a plain PPM text (P3), of at most 120 by 120 cells in 16 colours with the
 background. The calls are those of libnonobench, which is proved (docs/THEOREMS.md); this package
@@ -17,7 +17,7 @@ not call the library; use `Worker` there, which starts a new program. An answer 
 
 `picture_of_image` reads other images, a cell for each pixel, as a browser shows them:
 
-    picture = nonobench.picture_of_image(data)                           # raises ImageFault
+    picture = nonobench.picture_of_image(data)                           # raises ImageError
 """
 
 from . import _loading  # noqa: F401, before all else
@@ -25,20 +25,20 @@ from ._answers import (
     Assessment,
     Audit,
     Block,
-    CertificateFault,
+    CertificateError,
     Clues,
-    Fault,
     Flaw,
     Given,
-    GivensFault,
+    GivensError,
     Grade,
-    ImageFault,
-    LengthFault,
-    PictureFault,
+    ImageError,
+    LengthError,
+    NonobenchError,
+    PictureError,
     Proved,
     Result,
     Ruling,
-    UnpublishedGiven,
+    UnpublishedGivenError,
     Verdict,
 )
 from ._calls import (
@@ -69,20 +69,20 @@ __all__ = [
     "Assessment",
     "Audit",
     "Block",
-    "CertificateFault",
+    "CertificateError",
     "Clues",
-    "Fault",
     "Flaw",
     "Given",
-    "GivensFault",
+    "GivensError",
     "Grade",
-    "ImageFault",
-    "LengthFault",
-    "PictureFault",
+    "ImageError",
+    "LengthError",
+    "NonobenchError",
+    "PictureError",
     "Proved",
     "Result",
     "Ruling",
-    "UnpublishedGiven",
+    "UnpublishedGivenError",
     "Verdict",
     "Worker",
     "assess",

@@ -10,15 +10,15 @@ from ._answers import (
     Assessment,
     Audit,
     Clues,
-    Fault,
-    GivensFault,
-    LengthFault,
+    GivensError,
+    LengthError,
+    NonobenchError,
     Proved,
     Result,
     Verdict,
     assessment_of,
     clues_of,
-    fault_of,
+    error_of,
     givens_of,
     proved_of,
     result_of,
@@ -51,7 +51,7 @@ Published = Union[Iterable[tuple[int, int]], Bytes, AnyGiven]
 
 
 class Questions:
-    """The questions, wherever they are answered. Each raises PictureFault, LengthFault or
+    """The questions, wherever they are answered. Each raises PictureError, LengthError or
     MemoryError if a picture is refused, and ValueError for a background that is not a triple of
     numbers from 0 to 65,535. Without one the background is white.
     """
@@ -64,15 +64,15 @@ class Questions:
         published: Published = (),
     ) -> Result:
         """Checks a certificate of a picture, a P3 text, in any of its forms. Raises
-        CertificateFault if it is not accepted.
+        CertificateError if it is not accepted.
 
         A puzzle has one solution with the givens that its certificate names, and these may be all
         cells. So a certificate is accepted only if each of its givens is among `published`: the
         cells whose colours you publish, as pairs of row and column counted from 1, or as the bytes
         of a file with a line `given R C` for each; by default none. Otherwise it raises
-        UnpublishedGiven, whose `givens` are those that the certificate names. A published cell that
-        is outside the picture or occurs twice raises GivensFault. `published=ANY_GIVEN` accepts all
-        givens, for a site that then publishes exactly these.
+        UnpublishedGivenError, whose `givens` are those that the certificate names. A published cell
+        that is outside the picture or occurs twice raises GivensError. `published=ANY_GIVEN`
+        accepts all givens, for a site that then publishes exactly these.
         """
         picture, certificate, givens = (
             bytes_of(picture),
@@ -120,7 +120,7 @@ class Questions:
         rest = b"%d %d %d\n" % numbers + (by or b"")
         try:
             (text,) = self._ask(ASSESS, puzzle, background, rest, givens or b"")
-        except GivensFault:
+        except GivensError:
             if by is not None and isinstance(published, AnyGiven) and not non:
                 self.check(
                     puzzle, by, background, ANY_GIVEN
@@ -184,7 +184,7 @@ class Questions:
             if texts[-1] == b"refused: Memory\n":
                 raise MemoryError("nonobench: memory")
             last = texts[-1].decode("ascii")
-            raise Fault(last[9:-1], 0, last[:-1])
+            raise NonobenchError(last[9:-1], last[:-1])
         return texts
 
     def _ask(
@@ -201,7 +201,7 @@ class Questions:
         if status == MEMORY:
             raise MemoryError("nonobench: memory")
         if status != DONE:
-            raise fault_of(
+            raise error_of(
                 texts[-1].decode("ascii"), rest.partition(b"\n")[2] if kind == ASSESS else rest
             )
         return texts
@@ -260,7 +260,7 @@ def bytes_of(file: Bytes) -> bytes:
         raise TypeError(f"expected bytes, not {type(file).__name__}")
     data = bytes(memoryview(file))  # a subclass may have another length
     if len(data) > MOST_BYTES:
-        raise LengthFault("TooLong", MOST_BYTES, "input too long")
+        raise LengthError("TooLong", "input too long")
     return data
 
 
@@ -271,16 +271,15 @@ def _file_of(published: Published) -> Optional[bytes]:
     if isinstance(published, (bytes, bytearray, memoryview)):
         return bytes_of(published)
     try:
-        return bytes_of(
-            b"".join(
-                b"given %d %d\n" % (operator.index(row), operator.index(column))
-                for row, column in published
-            )
-        )
+        lines = [
+            b"given %d %d\n" % (operator.index(row), operator.index(column))
+            for row, column in published
+        ]
     except (TypeError, ValueError):
         raise TypeError(
             "published must be pairs of row and column, a file's bytes, or ANY_GIVEN"
         ) from None
+    return bytes_of(b"".join(lines))
 
 
 def _allow(allowance: Optional[int]) -> bytes:

@@ -10,11 +10,10 @@ from typing import Optional
 from .. import _images, _serve
 from .._answers import (
     Assessment,
-    CertificateFault,
-    Fault,
+    CertificateError,
     Given,
     Ruling,
-    UnpublishedGiven,
+    UnpublishedGivenError,
     givens_of,
     refused_flaws,
 )
@@ -22,7 +21,16 @@ from .._calls import Colour, Questions, colour_word, picture_of
 from .._hints import hint_of
 from .._library import DONE, MEMORY, Desk
 from . import reading, webpbn
-from .puzzles import BLACK, WHITE, Missing, Options, Question, Row, Unreadable, need
+from .puzzles import (
+    BLACK,
+    WHITE,
+    MissingLibraryError,
+    Options,
+    Question,
+    Row,
+    UnreadableError,
+    need,
+)
 from .reading import Picture
 from .rows import graded, shown_in
 from .shapes import shape_of
@@ -97,9 +105,9 @@ def row_of(question: Question, options: Options) -> Row:
     row: Row = {"file": question.name}
     try:
         row.update(_judged(question, options))
-    except Missing as error:
+    except MissingLibraryError as error:
         row.update(verdict="error", fit=False, error=str(error), missing=error.library)
-    except (Unreadable, Fault, ValueError) as error:
+    except ValueError as error:
         row.update(verdict="error", fit=False, error=str(error))
     except MemoryError:
         raise
@@ -117,9 +125,9 @@ def _judged(question: Question, options: Options) -> Row:
     if question.certificate is not None:
         said, row["certificate"] = _by_certificate(picture, question.certificate)
     elif options.is_certified:
-        raise Unreadable("there is no certificate")
+        raise UnreadableError("there is no certificate")
     if said is None and options.is_certified:
-        raise Unreadable(f"its certificate is refused: {row['certificate']['why']}")
+        raise UnreadableError(f"its certificate is refused: {row['certificate']['why']}")
     if said is None:
         said = _assessed(picture, None, options.max_guesses)
     is_accepted = row.get("certificate", {"accepted": True})["accepted"]
@@ -179,15 +187,15 @@ def _by_certificate(picture: Picture, certificate: bytes) -> tuple[Optional[Asse
     """What a certificate proves, if it is accepted, and what is said of it."""
     try:
         said = _assessed(picture, certificate, 0)
-    except UnpublishedGiven as fault:
+    except UnpublishedGivenError as error:
         return None, {
             "accepted": False,
-            "why": str(fault),
-            "givens": [list(given) for given in fault.givens],
+            "why": str(error),
+            "givens": [list(given) for given in error.givens],
         }
-    except CertificateFault as fault:
-        hint = hint_of(fault, certificate)
-        return None, {"accepted": False, "why": f"{fault} ({hint})" if hint else str(fault)}
+    except CertificateError as error:
+        hint = hint_of(error, certificate)
+        return None, {"accepted": False, "why": f"{error} ({hint})" if hint else str(error)}
     givens = [list(given) for given in givens_of(certificate)]
     return said, {"accepted": True, "givens": givens} if givens else {"accepted": True}
 
@@ -209,7 +217,7 @@ def _painted(picture: Picture, options: Options) -> Picture:
     if picture.givens or options.is_certified:
         try:  # of a puzzle with a goal, an empty certificate is refused, and without a search
             _assessed(picture, b"", 0)
-        except CertificateFault:
+        except CertificateError:
             pass
     with Desk() as desk:
         status, bench = desk.open(picture.text, b"", True)

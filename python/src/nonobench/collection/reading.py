@@ -6,10 +6,19 @@ import re
 from typing import NamedTuple, Optional
 
 from .. import _images
-from .._answers import ImageFault
+from .._answers import ImageError
 from .._calls import Colour
 from . import webpbn
-from .puzzles import BLACK, MOST_COLOURS, WHITE, Missing, Options, Question, Unreadable, need
+from .puzzles import (
+    BLACK,
+    MOST_COLOURS,
+    WHITE,
+    MissingLibraryError,
+    Options,
+    Question,
+    UnreadableError,
+    need,
+)
 
 # What a text begins with that an editor saved otherwise than as ASCII or UTF-8.
 _ODD_STARTS = {
@@ -61,11 +70,11 @@ def _word_of(question: Question, options: Options) -> str:
     if question.background is None:
         return options.background
     word = question.background.strip().decode("ascii", "replace")
+    need(word != _AUTO, "its background must be white or R,G,B")
     try:
-        need(word != _AUTO, "its background must be white or R,G,B")
         background_named(word)
     except ValueError as error:
-        raise Unreadable(f"its background {error}") from error
+        raise UnreadableError(f"its background {error}") from error
     return word
 
 
@@ -102,9 +111,9 @@ def _read_image(data: bytes, word: str) -> Picture:
         need(few, f"more than {MOST_COLOURS} colours with the background")
         return Picture(pixels.picture(background), background, why)
     except ImportError:
-        raise Missing("Pillow", "reads PNG") from None
-    except ImageFault as fault:
-        raise Unreadable(str(fault)) from fault
+        raise MissingLibraryError("Pillow", "reads PNG") from None
+    except ImageError as error:
+        raise UnreadableError(str(error)) from error
 
 
 def _read_xml(question: Question, word: str, is_untrusted: bool) -> Picture:
