@@ -246,6 +246,26 @@ class Workers(unittest.TestCase):
         for words, verdict in answers:
             self.assertEqual(verdict, wanted[words])
 
+    def test_the_wait_for_a_turn_counts(self):
+        """Twenty calls of a second each, none of which is answered, end long before the twenty
+        seconds that they would take one after another."""
+        ended = []
+        with nonobench.Worker(seconds=1) as worker:
+
+            def ask():
+                with self.assertRaisesRegex(TimeoutError, "^no answer within 1 seconds$"):
+                    worker.verdict(ENDLESS)
+                ended.append(time.monotonic())
+
+            threads = [threading.Thread(target=ask) for _ in range(20)]
+            begun = time.monotonic()
+            for thread in threads:
+                thread.start()
+            for thread in threads:
+                thread.join()
+        self.assertEqual(len(ended), 20)
+        self.assertLess(max(ended) - begun, 15)
+
     def test_a_program_that_is_no_python(self):
         for program in ("", None, "/bin/true", "/bin/sh"):
             with self.subTest(program), unittest.mock.patch.object(sys, "executable", program):

@@ -15,9 +15,12 @@ own, so several threads may call at once. After a program with threads has forke
 not call the library; use `Worker` there, which starts a new program. An answer may take long:
 `Worker` limits the time.
 
-`picture_of_image` reads other images, a cell for each pixel, as a browser shows them:
+`picture_of_image` reads other images, a cell for each pixel, as a browser shows them, and
+`puzzles_of` files of every kind that nonobench-audit reads:
 
-    picture = nonobench.picture_of_image(data)                           # raises ImageError
+    picture = nonobench.picture_of_image(data)  # raises ImageError
+    for puzzle in nonobench.puzzles_of(data):  # with picture, background, givens and title
+        nonobench.assess(puzzle.picture, None, puzzle.background, puzzle.givens)
 """
 
 from . import _loading  # noqa: F401, before all else
@@ -36,9 +39,11 @@ from ._answers import (
     NonobenchError,
     PictureError,
     Proved,
+    Puzzle,
     Result,
     Ruling,
     UnpublishedGivenError,
+    UnreadableError,
     Verdict,
 )
 from ._calls import (
@@ -50,6 +55,7 @@ from ._calls import (
     clues,
     picture_of,
     prove,
+    puzzles_of,
     verdict,
 )
 from ._hints import hint_of
@@ -80,9 +86,11 @@ __all__ = [
     "NonobenchError",
     "PictureError",
     "Proved",
+    "Puzzle",
     "Result",
     "Ruling",
     "UnpublishedGivenError",
+    "UnreadableError",
     "Verdict",
     "Worker",
     "assess",
@@ -95,6 +103,7 @@ __all__ = [
     "picture_of",
     "picture_of_image",
     "prove",
+    "puzzles_of",
     "verdict",
     "version",
 ]

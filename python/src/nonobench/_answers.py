@@ -63,6 +63,14 @@ class LengthError(NonobenchError):
     """A picture, a certificate or a file of givens has more than 16,777,216 bytes."""
 
 
+class UnreadableError(NonobenchError):
+    """No puzzle is read from a file. The text says why in one line."""
+
+    def __init__(self, text: str) -> None:
+        super().__init__("unreadable", text)
+        self.args = (text,)
+
+
 _KINDS = {
     "ppm": PictureError,
     "non": PictureError,
@@ -231,6 +239,16 @@ def refused_flaws(flaws: Iterable[str], kinds: Iterable[str]) -> list[str]:
     `spare` too."""
     allowed = {*kinds, *(("spare",) if "given" in kinds else ())}
     return [] if "any" in allowed else [flaw for flaw in flaws if flaw.split(" ")[0] not in allowed]
+
+
+class Puzzle(NamedTuple):
+    """A puzzle of a file, as the calls take it: a P3 text, its background (None is white), and the
+    cells that are given. XML may have a title."""
+
+    picture: bytes
+    background: Optional[tuple[int, int, int]] = None
+    givens: tuple[Given, ...] = ()
+    title: str = ""
 
 
 @dataclass(frozen=True)

@@ -133,8 +133,8 @@ def pixels_of(data: bytes) -> Pixels:
 
 
 def is_image(data: bytes) -> bool:
-    """Whether a file begins as PNG or Netpbm does, but for P3."""
-    return data.startswith(PNG) or bool(NETPBM.match(data))
+    """Whether a file begins as an image does, but for P3."""
+    return data.startswith(PNG) or bool(NETPBM.match(data) or kind_of(data))
 
 
 def kind_of(data: bytes) -> str:

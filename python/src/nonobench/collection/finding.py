@@ -11,9 +11,10 @@ import stat
 from collections import Counter
 from typing import Iterable, Iterator, NamedTuple, Optional
 
-from .._serve import read
+from .._answers import UnreadableError
 from .._calls import MOST_BYTES
-from .puzzles import Question, UnreadableError, need
+from .._serve import read
+from .puzzles import Question, need
 
 PUZZLES = (".ppm", ".pgm", ".pbm", ".pnm", ".png", ".non", ".xml")  # in any letters
 ENDINGS = {".cert": "certificate", ".givens": "givens", ".background": "background"}

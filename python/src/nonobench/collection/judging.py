@@ -11,27 +11,23 @@ from .. import _images, _serve
 from .._answers import (
     Assessment,
     CertificateError,
-    Given,
     Ruling,
     UnpublishedGivenError,
+    UnreadableError,
     givens_of,
     refused_flaws,
 )
-from .._calls import Colour, Questions, colour_word, picture_of
+from .._calls import Colour, Questions, colour_word
 from .._hints import hint_of
-from .._library import DONE, MEMORY, Desk
+from .._library import DONE, Desk
 from . import reading, webpbn
 from .puzzles import (
-    BLACK,
-    WHITE,
     MissingLibraryError,
     Options,
     Question,
     Row,
-    UnreadableError,
-    need,
 )
-from .reading import Picture
+from .reading import Picture, cells_of, painted
 from .rows import graded, shown_in
 from .shapes import shape_of
 
@@ -171,16 +167,10 @@ def _shown(picture: Picture, said: Assessment) -> Row:
         "shape": shape_of(rows),
     }
     if picture.givens:
-        row["givens"] = [list(given) for given in _cells_of(picture.givens)]
+        row["givens"] = [list(given) for given in cells_of(picture.givens)]
     if said.verdict.other:
         row["other"] = "/".join(said.verdict.other)
     return row
-
-
-def _cells_of(givens: bytes) -> list[Given]:
-    """The cells of a file of givens that was accepted, in row order."""
-    words = [line.split(b" ") for line in givens.splitlines()]
-    return sorted(Given(int(row), int(column)) for _, row, column in words)
 
 
 def _by_certificate(picture: Picture, certificate: bytes) -> tuple[Optional[Assessment], Row]:
@@ -210,28 +200,13 @@ def _assessed(
 
 
 def _painted(picture: Picture, options: Options) -> Picture:
-    """A picture as a P3 text. A .non puzzle is the picture of its goal, or that is found for its
-    clues; these do not say which colours givens have."""
-    if not picture.is_non:
-        return picture
-    if picture.givens or options.is_certified:
+    """A picture as a P3 text. The clues of a .non puzzle do not say which colours givens have."""
+    if picture.is_non and (picture.givens or options.is_certified):
         try:  # of a puzzle with a goal, an empty certificate is refused, and without a search
             _assessed(picture, b"", 0)
         except CertificateError:
             pass
-    with Desk() as desk:
-        status, bench = desk.open(picture.text, b"", True)
-        status = desk.say(bench, b"write ppm\n") if status == DONE else status
-        text = desk.text()
-    if status == MEMORY:
-        raise MemoryError
-    need(text.startswith(b"P3"), text.decode("ascii"))
-    size, _, *cells = text.splitlines()[1:]
-    columns, rows = map(int, size.split())
-    colours = (picture.background or WHITE, picture.ink)
-    if colours != (WHITE, BLACK):
-        text = picture_of(columns, rows, (colours[cell == b"0 0 0"] for cell in cells))
-    return picture._replace(text=text, is_non=False)
+    return painted(picture, _library)
 
 
 def files_of(question: Question, options: Options) -> dict[str, bytes]:
@@ -257,4 +232,4 @@ def _made(text: bytes, background: Optional[Colour], givens: bytes) -> Optional[
     if not givens:
         found = _library.prove(text, background).certificate
         return found or _library.certify(text, background)
-    return _library.certify_with(text, background, _cells_of(givens))
+    return _library.certify_with(text, background, cells_of(givens))

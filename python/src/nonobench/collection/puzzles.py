@@ -5,7 +5,7 @@ from __future__ import annotations
 import re
 from typing import Any, NamedTuple, Optional
 
-from .._answers import NonobenchError
+from .._answers import UnreadableError
 from .._calls import Colour
 
 MOST_COLOURS = 16  # with the background
@@ -21,15 +21,7 @@ _UNSEEN = re.compile(
 MOST_TITLE = 200
 
 
-class UnreadableError(NonobenchError):
-    """A puzzle is not read. The text says why in one line."""
-
-    def __init__(self, text: str) -> None:
-        super().__init__("unreadable", text)
-        self.args = (text,)
-
-
-class MissingLibraryError(UnreadableError):
+class MissingLibraryError(ImportError):
     """A library is not installed that a file or an option needs."""
 
     def __init__(self, library: str, use: str) -> None:

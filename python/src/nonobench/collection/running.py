@@ -13,6 +13,7 @@ from types import FrameType
 from typing import Iterable, Iterator, NoReturn, Optional
 
 from .. import _loading
+from .._answers import UnreadableError
 from .._library import version
 from . import webpbn
 from .arguments import Arguments, arguments_of, fail, refused_elsewhere, unpack_arguments
@@ -20,7 +21,7 @@ from .asking import Entry, Pack, answers, key_of
 from .finding import Found, Search, bytes_of, question_of
 from .outputs import Database, Lines, Printed, Sink, Spreadsheet, Table, write_file
 from .progress import Progress
-from .puzzles import Answer, Row, UnreadableError
+from .puzzles import Answer, Row
 from .rows import printable
 from .tally import FAILED, Tally
 
@@ -67,7 +68,7 @@ def unpack(name: str, folder: str) -> int:
         stem, width = os.path.splitext(os.path.basename(name))[0], len(str(len(files)))
         for number, data in enumerate(files, 1):
             write_file(os.path.join(folder, f"{stem}-{number:0{width}}.xml"), data)
-    except (UnreadableError, OSError) as error:
+    except (UnreadableError, OSError, ImportError) as error:
         fail(f"{printable(name)}: {error}")
     print(f"{len(files)} puzzles in {printable(folder)}")
     return 0

@@ -12,13 +12,13 @@ import re
 from typing import Any, Iterator, NamedTuple, Optional
 from xml.etree.ElementTree import Element, tostring
 
+from .._answers import UnreadableError
 from .._calls import MOST_CELLS, Colour, picture_of
 from .puzzles import (
     BLACK,
     MOST_COLOURS,
     WHITE,
     MissingLibraryError,
-    UnreadableError,
     need,
     one_line,
 )
@@ -67,6 +67,11 @@ def puzzle_of_xml(data: bytes) -> Drawn:
     puzzles = elements_of(data)
     need(len(puzzles) < 2, SEVERAL.format(len(puzzles)))
     return puzzle_of(puzzles[0])
+
+
+def puzzles_of_xml(data: bytes) -> list[Drawn]:
+    """All puzzles of an XML text."""
+    return list(map(puzzle_of, elements_of(data)))
 
 
 def files_of(data: bytes) -> Iterator[bytes]:
