@@ -24,12 +24,12 @@ from processes import children, is_running, only_child, seen  # noqa: E402
 
 import nonobench  # noqa: E402
 from nonobench import (  # noqa: E402
-    CertificateFault,
+    CertificateError,
     Given,
-    GivensFault,
-    LengthFault,
-    PictureFault,
-    UnpublishedGiven,
+    GivensError,
+    LengthError,
+    PictureError,
+    UnpublishedGivenError,
 )
 
 PACKAGE = Path(nonobench.__file__).resolve().parent.parent
@@ -59,12 +59,12 @@ def run_program(program, **more):
 class Workers(unittest.TestCase):
     """Questions to another process."""
 
-    def test_answers_and_faults(self):
+    def test_answers_and_errors(self):
         with nonobench.Worker(seconds=300) as worker:
             self.assertEqual(
                 worker.check(DIAGONAL, GIVEN, published=[(1, 1)]).givens, (Given(1, 1),)
             )
-            with self.assertRaises(UnpublishedGiven) as caught:
+            with self.assertRaises(UnpublishedGivenError) as caught:
                 worker.check(DIAGONAL, GIVEN)
             self.assertEqual(caught.exception.givens, (Given(1, 1),))
             self.assertEqual(worker.clues(DIAGONAL), nonobench.clues(DIAGONAL))
@@ -82,17 +82,17 @@ class Workers(unittest.TestCase):
                 worker.check(DIAGONAL, LEMMAS, published=b"given 1 1\n").givens,
                 (Given(1, 1),),
             )
-            with self.assertRaisesRegex(GivensFault, "^givens Place at line 1$"):
+            with self.assertRaisesRegex(GivensError, "^givens Place at line 1$"):
                 worker.check(DIAGONAL, LEMMAS, published=[(1, 3)])
-            with self.assertRaises(UnpublishedGiven) as caught:
+            with self.assertRaises(UnpublishedGivenError) as caught:
                 worker.check(DIAGONAL, LEMMAS)
             self.assertEqual((caught.exception.line, caught.exception.givens), (2, (Given(1, 1),)))
-            with self.assertRaises(LengthFault):
+            with self.assertRaises(LengthError):
                 worker.check(DIAGONAL, LEMMAS.ljust(16777217))
-            with self.assertRaises(CertificateFault) as caught:
+            with self.assertRaises(CertificateError) as caught:
                 worker.check(DIAGONAL, b"")
             self.assertEqual((caught.exception.name, caught.exception.line), ("NotCert", 1))
-            with self.assertRaisesRegex(PictureFault, "^ppm NotP3 at byte 0$"):
+            with self.assertRaisesRegex(PictureError, "^ppm NotP3 at byte 0$"):
                 worker.clues(b"")
             with self.assertRaises(ValueError):
                 worker.verdict(DIAGONAL, -1)
@@ -150,7 +150,7 @@ class Workers(unittest.TestCase):
         with nonobench.Worker(seconds=300, memory=40 << 20) as worker:
             with self.assertRaises(MemoryError):
                 worker.check(DIAGONAL, b" " * 16777216)
-        with nonobench.Worker(seconds=300) as worker, self.assertRaises(CertificateFault):
+        with nonobench.Worker(seconds=300) as worker, self.assertRaises(CertificateError):
             worker.check(DIAGONAL, b" " * 16777216)
         # The answer alone takes more than there is.
         for memory in (1, 20):
@@ -232,6 +232,26 @@ class Workers(unittest.TestCase):
         for words, verdict in answers:
             self.assertEqual(verdict, wanted[words])
 
+    def test_the_wait_for_a_turn_counts(self):
+        """Twenty calls of a second each, none of which is answered, end long before the twenty
+        seconds that they would take one after another."""
+        ended = []
+        with nonobench.Worker(seconds=1) as worker:
+
+            def ask():
+                with self.assertRaisesRegex(TimeoutError, "^no answer within 1 seconds$"):
+                    worker.verdict(ENDLESS)
+                ended.append(time.monotonic())
+
+            threads = [threading.Thread(target=ask) for _ in range(20)]
+            begun = time.monotonic()
+            for thread in threads:
+                thread.start()
+            for thread in threads:
+                thread.join()
+        self.assertEqual(len(ended), 20)
+        self.assertLess(max(ended) - begun, 15)
+
     def test_a_program_that_is_no_python(self):
         for program in ("", None, "/bin/true", "/bin/sh"):
             with self.subTest(program), unittest.mock.patch.object(sys, "executable", program):
@@ -265,11 +285,11 @@ QUESTIONS = (
 
 
 def told(asked, name, *words):
-    """What somebody answers to a question, or the fault."""
+    """What somebody answers to a question, or the error."""
     try:
         return getattr(asked, name)(*words)
-    except nonobench.Fault as fault:
-        return str(fault)
+    except nonobench.NonobenchError as error:
+        return str(error)
 
 
 class Interrupts(unittest.TestCase):
