@@ -532,6 +532,19 @@ export async function tutorialSteps({browser, url, folder}) {
   // As docs/TUTORIAL.md tells it.
   assert.equal((await proposals(page))[0], '2 cells: row 2, column 5; row 2, column 12');
   assert.equal(await trial.text('#fix-list li [data-where]'), 'r2 c5 …');
+  await page.run(() => document.querySelector('#fix-list button').click());
+  await page.until(() => bench.state.picture[1] === '....a......a....', 5000 * SLACK);
+  assert.equal(await trial.judged(), 'unique');
+  await page.until(
+      () => document.getElementById('grade').textContent.startsWith('hard '), 20000 * SLACK
+  );
+  await trial.press('Control+z');
+  assert.equal(await trial.judged(), 'ambiguous');
+  await page.until(
+      () =>
+          document.querySelector('#fix-list button')?.title.startsWith('2 cells: row 2, column 5'),
+      30000 * SLACK
+  );
   for (const [section, corner, rest] of [
            [1, 'row 3, column 4', '...aaaaaaaaa....'],
            [0, 'row 3, column 13', '...aaaaaaaaaa...']]) {
