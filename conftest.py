@@ -31,6 +31,7 @@ WHY_LONG = 'it takes long, and make check-all has it ({})'
 WANTED = {
     'test_audit': {'PIL': 'Pillow', 'defusedxml': 'defusedxml', 'jinja2': 'Jinja2'},
     'test_images': {'PIL': 'Pillow'},
+    'test_puzzles': {'PIL': 'Pillow', 'defusedxml': 'defusedxml'},
     'test_service': {'flask': 'Flask', 'PIL': 'Pillow', 'defusedxml': 'defusedxml'},
 }
 KEPT = pytest.StashKey()

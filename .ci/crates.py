@@ -2,9 +2,9 @@
 """Keeps the list of crates in one order: .ci/crates.py [--write]
 
 Each crate has a room, by ROOMS. crates.txt must name the crates room by room, each after those that
-it depends on. The list of crates/README.md, between two marks, must be what this script makes of
-crates.txt and the first sentence of each crate's root file. What follows it is kept. With --write
-both are put into order.
+it depends on. The list of crates/README.md, between two marks, has two lines for each crate: the
+first sentence of the crate's root file, and what one changes there, which is written by hand and
+kept. So is what follows the list. With --write both files are put into order.
 """
 import re
 import sys
@@ -45,7 +45,9 @@ ROOMS = {
 }
 HEAD = '''# Crates
 
-The crates in reading order, each after those that it depends on (`crates.txt`); what [a change costs](#what-a-change-costs), and [what no must-fail edit guards](#what-no-must-fail-edit-guards). [ARCHITECTURE.md](../docs/ARCHITECTURE.md) says how they work together, and `make promises` writes a list of their public calls with their contracts.
+A reading list, in ten minutes: the crates in the order in which one reads them, each after those that it uses (`crates.txt`). The first line says what a crate is, and the second what you would change there. At the end: what [a change costs](#what-a-change-costs), and [what no must-fail edit guards](#what-no-must-fail-edit-guards).
+
+[ARCHITECTURE.md](../docs/ARCHITECTURE.md) says how the crates work together. To see what is claimed, and what a check rests on, read `picture`, `clues`, `line_facts`, `cert_text`, `cert_check` and `claims`, each `specs/` first. `make promises` lists all public calls with their contracts.
 
 <!-- .ci/crates.py makes this part -->
 '''  # noqa: E501
@@ -92,12 +94,20 @@ def told(crate):
     return ''
 
 
-def page(crates, rest):
-    """The text of crates/README.md, whose list is followed by the rest."""
-    text = HEAD
+def changes(text):
+    """What one changes in each crate: the line below the crate's own, which is written by hand."""
+    return dict(re.findall(r'^- \[`(\w+)`\].*\n  (\S.*)$', text, re.M))
+
+
+def page(crates, before, rest):
+    """The text of crates/README.md, whose list is followed by the rest; `before` has the lines that
+    are written by hand."""
+    text, by_hand = HEAD, changes(before)
     for room, (what, _) in ROOMS.items():
         items = ''.join(
-            f'- [`{name}`]({name}): {told(name)}\n' for name in crates if room_of(name) == room
+            f'- [`{name}`]({name}): {told(name)}.\\\n  {by_hand.get(name, "?")}\n'
+            for name in crates
+            if room_of(name) == room
         )
         text += f'\n## {room}: {what}\n\n{items}' if items else ''
     return text + FOOT + rest
@@ -126,6 +136,8 @@ def faults(crates, text):
         yield 'crates.txt is not in the order of rooms: run .ci/crates.py --write'
     if not README.exists() or README.read_text(encoding='utf-8') != text:
         yield 'crates/README.md is stale: run .ci/crates.py --write'
+    for name in crates.keys() - changes(text.replace('\n  ?\n', '\n')).keys():
+        yield f'crates/README.md does not say what one changes in {name}'
     for name in re.findall(r'^\| `(\w+)` \|', text, re.M):
         if name not in crates:
             yield f'crates/README.md: its table of costs has {name}, which is no crate'
@@ -138,7 +150,8 @@ def main(words):
     if words:
         put_in_order()
     crates = listed()
-    text = page(crates, README.read_text(encoding='utf-8').partition(FOOT)[2])
+    before = README.read_text(encoding='utf-8')
+    text = page(crates, before, before.partition(FOOT)[2])
     if words:
         README.write_text(text, encoding='utf-8')
     found = list(faults(crates, text))

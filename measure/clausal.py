@@ -19,7 +19,14 @@ sys.dont_write_bytecode = True
 HERE = Path(__file__).resolve().parent
 sys.path.insert(0, str(HERE))
 from others import Limit, Task, read_ppm, write_clauses  # noqa: E402
-from others_plot import CLAUSAL, HINTS, VERIFIED, print_tables, read_rows, write_rows  # noqa: E402
+from others_tables import (  # noqa: E402
+    CLAUSAL,
+    HINTS,
+    VERIFIED,
+    print_tables,
+    read_rows,
+    write_rows,
+)
 
 BOOK = '(include-book "projects/sat/lrat/stobj-based/run" :dir :system)\n'
 

@@ -1,7 +1,7 @@
 #!/usr/bin/env python3
 """Measures who decides within a time whether a picture is the only one with its clues:
 measure/others.py PROGRAM FOLDER .. [--seconds N] [--others CSV] [--class NAME=PATTERN,..] [--tuned
-FOLDER] [--csv FILE] [--svg FILE]
+FOLDER] [--csv FILE]
 
 Each P3 picture of the folders is given to nonobench (`verdict`) and to the solvers that are
 installed: minisat and cadical (clauses), gringo with clasp (an answer set program), gecode
@@ -16,10 +16,10 @@ for pictures that the verdict left open.
 With `--others`, only nonobench is measured, and the rows of the other solvers are taken from the
 CSV of an earlier run over the same pictures and classes.
 
-It prints the tables of docs/COMPARISON.md, and writes its rows as CSV and its plot as SVG;
-others_plot.py makes tables and plot again from the CSV. A picture belongs to the first class with a
-pattern that its file's name matches, or else to `other`. The pictures of the folders `--tuned` are
-those on which an earlier nonobench was improved; a further table leaves them out.
+It prints the tables of docs/COMPARISON.md, and writes its rows as CSV; others_tables.py makes the
+tables again from that. A picture belongs to the first class with a pattern that its file's name
+matches, or else to `other`. The pictures of the folders `--tuned` are those on which an earlier
+nonobench was improved; the table of answers leaves them out.
 
 A line is described by a deterministic automaton over its cells, the same for all: its state is how
 many of the clue's cells, and of the gaps that must be between blocks of one colour, have been read.
@@ -28,8 +28,7 @@ some cell.
 
 docs/COMPARISON.md was made so; the first folder has the pictures that nonobench was improved on:
 
-nice -n 5 measure/others.py PROGRAM FOLDER FOLDER --tuned FOLDER --csv docs/comparison.csv --svg
-docs/comparison.svg
+nice -n 5 measure/others.py PROGRAM FOLDER FOLDER --tuned FOLDER --csv docs/comparison.csv
   --class 'icons=adwaita-*,flag-*,fvwm-*,gnome-*,njam-*,picmi-*,silk-*,tango-*,xbm-*'
   --class 'random and hard=blob-*,hard-*,noise-*' --class 'patterns=*'
 """
@@ -47,13 +46,12 @@ from statistics import median
 sys.dont_write_bytecode = True
 ROOT = Path(__file__).resolve().parent.parent
 sys.path.insert(0, str(ROOT / 'tests/references'))
-from others_plot import (  # noqa: E402
+from others_tables import (  # noqa: E402
     CERTIFY,
     CHECK,
     PROVE,
     VERIFY,
     by,
-    drawn,
     of_solvers,
     print_tables,
     read_rows,
@@ -465,7 +463,6 @@ def arguments():
         help='a folder of pictures on which nonobench was improved',
     )
     parser.add_argument('--csv', help='a file for the rows')
-    parser.add_argument('--svg', help='a file for the plot')
     return parser.parse_args()
 
 
@@ -505,8 +502,6 @@ def main():
             rows += done[:1] + (kept_rows(earlier, done[0]) if earlier else []) + done[1:]
     if asked.csv:
         write_rows(asked.csv, rows)
-    if asked.svg:
-        Path(asked.svg).write_text(drawn(rows), encoding='utf-8')
     print_tables(rows)
 
 

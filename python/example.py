@@ -13,5 +13,5 @@ print(nonobench.clues(picture), end="")
 print(nonobench.verdict(picture, allowance=1000))
 try:
     print(nonobench.check(picture, certificate, published=published), end="")
-except nonobench.CertificateFault as fault:
-    print(fault.name, "at line", fault.line)
+except nonobench.CertificateError as error:
+    print(error.name, "at line", error.line)

@@ -1207,19 +1207,19 @@ test(
         assert.deepEqual(said('given.ppm', lemmas, one), [given, 0]);
         const two = file('two', 'given 2 2\ngiven 1 1\n');
         assert.deepEqual(
-            said('given.ppm', 'given.ppm.cert', two), ['refused: flaw spare 2 2\n', 1]
+            said('given.ppm', 'given.ppm.cert', two), ['refused: flaw given 1 1\n', 1]
         );
         assert.deepEqual(
             said('given.ppm', 'given.ppm.cert', two, '255,0,0'),
-            ['refused: flaw background; flaw spare 2 2\n', 1]
+            ['refused: flaw background; flaw given 1 1\n', 1]
         );
         for (const kind of ['blank', 'alike', 'background'])
           assert.deepEqual(
               said('--allow-flaw', kind, 'given.ppm', 'given.ppm.cert', two),
-              ['refused: flaw spare 2 2\n', 1]
+              ['refused: flaw given 1 1\n', 1]
           );
         const spare =
-            'unique\nsize 2 2\ncolours 2\ngivens 2\nopen 0\ngrade easy 1 2 1 0 0\nflaw spare 2 2\nunfit\n';
+            'unique\nsize 2 2\ncolours 2\ngivens 2\nopen 0\ngrade easy 1 2 1 0 0\nflaw given 1 1\nunfit\n';
         for (const words of [['given'], ['any'], ['blank', '--allow-flaw', 'given']]) {
           assert.deepEqual(
               said('--allow-flaw', ...words, 'given.ppm', 'given.ppm.cert', two), [spare, 0]

@@ -51,11 +51,11 @@ export function docsFor(size, docOf, counts = COUNTS) {
   return docs;
 }
 
-function tileOf({doc}, take) {
+/** A tile of a sheet: a document with a text; `take` hears a click. Its verdict is told later. */
+export function tileOf({doc}, text, take) {
   const canvas = make('canvas', {'aria-hidden': 'true'});
   drawSmall(canvas, doc, TILE);
   const verdict = make('span', {class: 'verdict'}, '…');
-  const text = phrase('import.sizeColours', {size: sizeText(doc), colours: doc.colours.length});
   const element = make(
       'button',
       {type: 'button', class: 'contact', onclick: take},
@@ -65,6 +65,17 @@ function tileOf({doc}, take) {
   );
   return {element, verdict};
 }
+
+/** Tells on a tile what the engine said. */
+export function tellTile({verdict, element}, said) {
+  const grade = gradeIn(said);
+  verdict.textContent =
+      [verdictName(said.verdict), grade ? gradeName(grade.word) : ''].filter(Boolean).join(', ');
+  element.dataset.word = said.verdict;
+}
+
+const sizeAndColours = (doc) =>
+    phrase('import.sizeColours', {size: sizeText(doc), colours: doc.colours.length});
 
 /**
  * Shows the sheet, filled size by size; gives `{ size, colours }` of what was taken, or null.
@@ -88,8 +99,9 @@ export async function contactSheet(sizes, docOf, own) {
   const fill = async () => {
     const tiles = [];
     for (const size of sizes) {
-      const some =
-          docsFor(size, docOf, counts).map((one) => ({...one, ...tileOf(one, () => take(one))}));
+      const some = docsFor(
+                       size, docOf, counts
+      ).map((one) => ({...one, ...tileOf(one, sizeAndColours(one.doc), () => take(one))}));
       if (size.join() === own.size.join())
         some.findLast(
                 ({colours}) => colours <= own.colours
@@ -103,14 +115,10 @@ export async function contactSheet(sizes, docOf, own) {
       await new Promise((go) => setTimeout(go));  // so that each row is seen at once
       if (judge.isEnded) return;
     }
-    for (const {doc, verdict, element} of tiles) {
-      const said = await judge.judge(doc).catch(() => ({verdict: 'undecided', grade: null}));
+    for (const tile of tiles) {
+      const said = await judge.judge(tile.doc).catch(() => ({verdict: 'undecided', grade: null}));
       if (!said) return;
-      const grade = gradeIn(said);
-      verdict.textContent =
-          [verdictName(said.verdict), grade ? gradeName(grade.word) : ''].filter(Boolean).join(', '
-          );
-      element.dataset.word = said.verdict;
+      tellTile(tile, said);
     }
   };
   const filled = fill();

@@ -1,7 +1,7 @@
 // A picture into a puzzle: a dialog with the image, the part that is taken, the size in cells, the
 // colours, and what comes of it, drawn anew at each change, with its verdict.
 
-import {hasFingers, make} from '../base/elements.js';
+import {fieldOf, hasFingers, make} from '../base/elements.js';
 import {capital, clamp} from '../base/words.js';
 import {MOST_CELLS, MOST_COLOURS} from '../document/limits.js';
 import {COLOUR_NAMES} from '../document/named.js';
@@ -22,7 +22,9 @@ import {Inks} from './inks.js';
 import {Judging, judgedText} from './judging.js';
 import {Maker} from './making.js';
 import {docApart, proposalFor, withoutMargin} from './proposing.js';
+import {SEGMENTS} from './segments.js';
 import {thresholdFor, toned} from './tone.js';
+import {Turning} from './turning.js';
 
 // The texts of fields, by their names.
 const LABELS = {
@@ -35,6 +37,8 @@ const LABELS = {
   keeps: phrase('import.keepProportions'),
   sharp: phrase('import.pixelArtOnePixel'),
   two: phrase('import.twoColoursLightness'),
+  turned: phrase('import.twoColoursSegments'),
+  segments: phrase('import.segments'),
   inverted: phrase('import.drawLightParts'),
   lines: phrase('import.lineArtAreaDark'),
   dither: phrase('import.dithering'),
@@ -54,6 +58,7 @@ const shownSide = () =>
     (matchMedia('(min-width: 1500px) and (min-height: 900px)').matches ? 480 : 320
     );  // pixels of the two pictures in the dialog
 const MOST_SPECK = 12;
+const MOST_SEGMENTS = 8;
 const AROUND = 0.008;  // of a photo's longer side: how far around a click its colour is a mean
 
 class Importing {
@@ -66,10 +71,12 @@ class Importing {
   keeps;
   sharp;
   two;
+  turned;
   inverted;
   lines;
   dither;  // boxes to tick
   colours;
+  segments;
   threshold;
   area;
   brightness;
@@ -89,6 +96,7 @@ class Importing {
     this.inks = new Inks(() => this.change('inks'), (by) => {
       this.colours.value = Number(this.colours.value) + by;
     });
+    this.turning = new Turning(() => this.change('turning'), () => this.showBest());
     this.judged = (found) => {
       this.verdict.textContent = judgedText(found);
     };
@@ -119,20 +127,20 @@ class Importing {
       [this.columns.value, this.rows.value] = this.size;
     });
     this[name] = input;
-    return make('label', {}, LABELS[name], input);
+    return fieldOf(LABELS[name], input);
   }
 
   tick(name, checked = false) {
     this[name] = make('input', {type: 'checkbox', checked});
     this[name].addEventListener('input', () => this.change(name));
-    return make('label', {}, this[name], LABELS[name]);
+    return make('label', {class: 'tick'}, this[name], LABELS[name]);
   }
 
   slider(name, min, max, value) {
     this[name] = make('input', {type: 'range', min, max, value, id: `import-${name}`});
     const shown = make('output', {}, String(value));
     this[name].addEventListener('input', () => this.change(name));
-    return Object.assign(make('label', {}, LABELS[name], this[name], shown), {
+    return Object.assign(fieldOf(LABELS[name], this[name], shown), {
       show: () => {
         shown.value = this[name].value;
       }
@@ -241,7 +249,7 @@ class Importing {
     this.sharp.checked = this.isSharp(taken.size);
     [this.columns.value, this.rows.value] = taken.size;
     this.colours.value = taken.colours;
-    this.two.checked = false;
+    this.two.checked = this.turned.checked = false;
     this.change();
   }
 
@@ -249,17 +257,23 @@ class Importing {
     const count = this.slider('colours', 2, MOST_COLOURS, this.proposal.colours);
     const threshold = this.slider('threshold', 1, 255, 128);
     const area = this.slider('area', 5, 95, 30);
-    this.sliders = [count, threshold, area];
+    const segments = this.slider('segments', 2, MOST_SEGMENTS, SEGMENTS);
+    this.sliders = [count, threshold, area, segments];
+    this.parted = {
+      colours: [count, this.inks.element],
+      two: [threshold, this.tick('inverted'), this.tick('lines'), area],
+      turned: [segments, this.turning.element]
+    };
     this.ofArea = area;
-    this.onlyTwo =
-        make('div', {class: 'ground'}, threshold, this.tick('inverted'), this.tick('lines'), area);
     return make(
         'fieldset',
         {},
         make('legend', {}, phrase('view.colours')),
         count,
         this.tick('two'),
-        this.onlyTwo,
+        ...this.parted.two,
+        make('div', {class: 'ground'}, this.tick('turned'), this.turning.button),
+        ...this.parted.turned,
         this.inks.element
     );
   }
@@ -288,7 +302,7 @@ class Importing {
   // Locks the colour of the image at a place, as the palette has it.
   pick([x, y]) {
     const {full} = this;
-    if (this.two.checked || isTransparent(full.data, (y * full.width + x) * 4)) return;
+    if (this.isTwo || isTransparent(full.data, (y * full.width + x) * 4)) return;
     const points = this.maker.points(this.part(), this.options());
     const around = isFlat(points) ? 0 : Math.round(Math.max(full.width, full.height) * AROUND);
     const [left, top] = [Math.max(0, x - around), Math.max(0, y - around)];
@@ -336,6 +350,7 @@ class Importing {
     this.size = [side(this.columns), side(this.rows)];
     if (dots && ['columns', 'rows'].includes(name))
       this.sharp.checked = this.size.join() === dots.join();
+    if (name === 'two' || name === 'turned') this.chooseTwo(name);
     if (name === 'two' && this.two.checked)
       this.threshold.value = thresholdFor(
           this.maker.cells(this.part(), this.size, {...this.options(), sharp: this.sharp.checked})
@@ -367,12 +382,16 @@ class Importing {
   }
 
   showFields() {
-    const isTwo = this.two.checked;
+    const shown = this.two.checked ? 'two' : this.turned.checked ? 'turned' : 'colours';
     for (const one of this.sliders) one.show();
-    this.onlyTwo.hidden = !isTwo;
-    this.ofArea.hidden = !this.lines.checked;
-    this.colours.disabled = this.dither.disabled = isTwo;
-    this.inks.element.hidden = isTwo;
+    for (const [name, parts] of Object.entries(this.parted))
+      for (const part of parts) part.hidden = name !== shown;
+    this.ofArea.hidden ||= !this.lines.checked;
+    this.dither.disabled = this.isTwo;
+  }
+
+  get isTwo() {
+    return this.two.checked || this.turned.checked;
   }
 
   /** Shows the fields as they were left, and judges what they give. */
@@ -436,6 +455,30 @@ class Importing {
     return this.worked;
   }
 
+  // Of the two ways to two colours one holds.
+  chooseTwo(name) {
+    if (this[name].checked) this[name === 'two' ? 'turned' : 'two'].checked = false;
+  }
+
+  // The document that `make` gives for options: of segments that in two colours.
+  made(make) {
+    if (!this.turned.checked) return make(this.options());
+    return this.turning.docOf(make(this.segmentOptions()), {specks: this.options(false).specks});
+  }
+
+  segmentOptions() {
+    const {sharp, brightness, contrast} = this.options(false);
+    return {sharp, brightness, contrast, colours: Number(this.segments.value)};
+  }
+
+  // Lets the user choose among the best six, and takes that.
+  async showBest() {
+    const doc = this.maker.doc(this.part(), this.size, this.segmentOptions());
+    if (!(await this.turning.askBest(doc, {specks: Number(this.specks.value)}))) return;
+    this.turned.checked = true;
+    this.change('turned');
+  }
+
   options(isTwo = this.two.checked) {
     const value = (name) => Number(this[name].value);
     const common = {
@@ -465,7 +508,8 @@ class Importing {
     const begun = performance.now();
     clearTimeout(this.timer);
     this.timer = setTimeout(() => this.isWaiting && this.show(), SKETCH_REST);
-    this.doc = this.maker.sketch({image: this.full, box: this.crop}, this.size, this.options());
+    const part = {image: this.full, box: this.crop};
+    this.doc = this.made((options) => this.maker.sketch(part, this.size, options));
     this.judging.wait();
     this.draw();
     this.preview.dataset.ms = (performance.now() - begun).toFixed(1);
@@ -476,7 +520,7 @@ class Importing {
     const isFirst = !this.timer;  // no sketch of it was drawn
     clearTimeout(this.timer);
     Object.assign(this, {isWaiting: false, timer: 0});
-    this.doc = this.maker.doc(this.part(), this.size, this.options());
+    this.doc = this.made((options) => this.maker.doc(this.part(), this.size, options));
     this.draw();
     this.spent = performance.now() - begun;
     if (isFirst) this.preview.dataset.ms = this.spent.toFixed(1);
@@ -487,6 +531,7 @@ class Importing {
     drawSmall(this.preview, this.doc, this.source.most);
     this.source.draw(this.crop);
     this.inks.show(this.doc);
+    this.turning.show();
     this.alike.show(this.doc);
     this.facts.textContent = phrase(
         'import.cellsColoursBackground',

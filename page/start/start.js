@@ -173,24 +173,25 @@ function exampleItem(source) {
   );
 }
 
-// Shows what stands below the library once that is listed, so that it does not move under the
-// pointer.
-async function comesLater(element, is) {
+// Shows the examples, below the library, once that is listed, so that they do not move under the
+// pointer. Nor are they read before.
+async function showExamples(element, sources) {
   delete $('start').dataset.listed;
   await Promise.race([libraryListed(), new Promise((go) => setTimeout(go, LISTED))]);
-  element.hidden = !is;
+  const items = sources.map(exampleItem).filter(Boolean);
+  element.querySelector('ul').replaceChildren(...items);
+  element.hidden = items.length === 0;
   $('start').dataset.listed = '';
 }
 
 /** Shows the start screen, over what is open. */
 export function showStart() {
   const sources = [...document.querySelectorAll('script[data-example]')];
-  const examples = sources.map(exampleItem).filter(Boolean);
   const shown = make(
       'section',
       {id: 'examples', class: 'card wide', 'aria-labelledby': 'examples-title', hidden: true},
       make('h2', {id: 'examples-title'}, phrase('start.examples')),
-      make('ul', {class: 'tiles'}, ...examples)
+      make('ul', {class: 'tiles'})
   );
   const back = bench.state ? [make(
                                  'p',
@@ -214,7 +215,7 @@ export function showStart() {
           shown
       )
   );
-  comesLater(shown, examples.length > 0);
+  showExamples(shown, sources);
   $('start').hidden = false;
   $('work').hidden = true;
   document.body.classList.add('starting');

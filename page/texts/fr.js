@@ -703,6 +703,18 @@ export const FR =
       'import.noSprites': 'Aucun champ ne montre quoi que ce soit.',
       'import.howManyBackground': 'Combien, avec le fond',
       'import.twoColoursLightness': 'Deux couleurs, selon la clarté',
+      'import.twoColoursSegments': 'Deux couleurs, par parties',
+      'import.segments': 'Nombre de parties',
+      'import.inkOrPaper': 'Parties de l’image : encre ou papier',
+      'import.turnSwatch':
+          'Un clic fait passer une couleur de l’encre (■) au papier (□), et inversement.',
+      'import.isInk': '{name} : encre',
+      'import.isPaper': '{name} : papier',
+      'import.bestSix': 'Les six meilleures …',
+      'import.bestSixTitle': 'Deux couleurs : les six meilleures',
+      'import.inkShare': '{share} % d’encre',
+      'import.bestFirst':
+          '{pictures|# image|# d’images|# images} : d’abord celles qui ont une seule solution, puis selon les contours conservés.',
       'import.drawLightParts': 'Dessiner les parties claires',
       'import.darkBelow': 'Sombre au-dessous de',
       'import.lineArtAreaDark': 'Dessin au trait : selon la surface sombre',

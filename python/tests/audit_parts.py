@@ -4,6 +4,7 @@ runs of the program."""
 import io
 import json
 import os
+import re
 import subprocess
 import sys
 import tempfile
@@ -17,6 +18,7 @@ JOBS = "1" if os.environ.get("SHORT") else "2"
 # For those of many runs: `make check` says why it leaves them out.
 takes_long = unittest.skipIf(os.environ.get("SHORT"), os.environ.get("SHORT"))
 ROOT = Path(__file__).resolve().parent.parent.parent
+CASES = ROOT / "tests" / "cases"
 WHITE, BLACK, RED = (255, 255, 255), (0, 0, 0), (255, 0, 0)
 TRIPLES = {".": WHITE, "a": BLACK, "b": RED}
 # Black above white, white above red: rows 1a and 1b, columns 1a and 1b. No other picture has these
@@ -78,6 +80,32 @@ def image(kind, mode="RGB", pixels=(BLACK, WHITE, WHITE, RED), size=(2, 2), **mo
     file = io.BytesIO()
     made.save(file, kind, **more)
     return file.getvalue()
+
+
+def cases_in(name):
+    """The cases of a file: lists of lines, each a key and its value."""
+    text = (CASES / name).read_text(encoding="utf-8")
+    blocks = re.sub(r"(?m)^#.*\n", "", text).strip().split("\n\n")
+    return [[line.partition(" ")[::2] for line in block.splitlines()] for block in blocks]
+
+
+def background_cases():
+    """The cases of backgrounds.txt: a name, a PNG, the background that is named or None, and the
+    puzzle's with what told it, or why the image is refused."""
+    letters = {
+        "-": (0, 0, 0, 0),
+        "w": (255, 255, 255, 255),
+        "k": (0, 0, 0, 255),
+        "r": (255, 0, 0, 255),
+    }
+    for case in map(dict, cases_in("backgrounds.txt")):
+        rows = case["rows"].split("/")
+        pixels = [letters[letter] for row in rows for letter in row]
+        data = image("PNG", "RGBA", pixels, size=(len(rows[0]), len(rows)))
+        named = case["named"].encode() if "named" in case else None
+        triple, _, why = case.get("background", "0,0,0").partition(" ")
+        wanted = "%02x%02x%02x" % tuple(map(int, triple.split(","))), why
+        yield case["case"], data, named, wanted, case.get("refused")
 
 
 class Case(unittest.TestCase):

@@ -42,6 +42,14 @@ def children(parent):
     ]
 
 
+def only_child(call):
+    """The process that this program starts during a call, which starts one."""
+    before = set(children(os.getpid()))
+    call()
+    (pid,) = (pid for pid in children(os.getpid()) if pid not in before and is_running(pid))
+    return pid
+
+
 def is_running(pid):
     """Whether a process is there, and has not ended."""
     return seen(pid).state not in ("", "Z", "X")

@@ -20,6 +20,7 @@ from pathlib import Path
 sys.path.insert(0, str(Path(__file__).resolve().parent))
 from audit_parts import (  # noqa: E402
     AMBIGUOUS,
+    CASES,
     CERT,
     GIVEN_CERT,
     LEMMAS,
@@ -28,6 +29,8 @@ from audit_parts import (  # noqa: E402
     ROOT,
     UNIQUE,
     Case,
+    background_cases,
+    cases_in,
     chequered,
     eventually,
     image,
@@ -40,7 +43,6 @@ from processes import children, is_running  # noqa: E402
 import nonobench  # noqa: E402
 from nonobench.collection import Options, Question, audit, judge  # noqa: E402
 
-CASES = ROOT / "tests" / "cases"
 TEXTS = {
     ".ppm": p3(UNIQUE),
     ".png": image("PNG"),
@@ -53,13 +55,6 @@ TEXTS = {
 SAVED = '<solution type="saved" id="givens"><image>|X?||??|</image></solution>'
 # A puzzle that no search decides in a second.
 HARD = p3_of_letters(chequered(60, 4))
-
-
-def cases_in(name):
-    """The cases of a file: lists of lines, each a key and its value."""
-    text = (CASES / name).read_text(encoding="utf-8")
-    blocks = re.sub(r"(?m)^#.*\n", "", text).strip().split("\n\n")
-    return [[line.partition(" ")[::2] for line in block.splitlines()] for block in blocks]
 
 
 class Names(Case):
@@ -443,27 +438,15 @@ class Rows(Case):
         self.assertIn("b.ppm; same clues as a.ppm", self.run_audit("site").stdout)
 
     def test_backgrounds(self):
-        letters = {
-            "-": (0, 0, 0, 0),
-            "w": (255, 255, 255, 255),
-            "k": (0, 0, 0, 255),
-            "r": (255, 0, 0, 255),
-        }
-        cases = cases_in("backgrounds.txt")
+        cases = list(background_cases())
         self.assertGreaterEqual(len(cases), 10)
-        for case in map(dict, cases):
-            rows = case["rows"].split("/")
-            pixels = [letters[letter] for row in rows for letter in row]
-            data = image("PNG", "RGBA", pixels, size=(len(rows[0]), len(rows)))
-            named = case["named"].encode() if "named" in case else None
-            with self.subTest(case["case"]):
+        for name, data, named, wanted, refused in cases:
+            with self.subTest(name):
                 row = judge([Question("one.png", data, background=named)])[0].row
-                if "refused" in case:
-                    self.assertIn(f"the image is refused: {case['refused']} (", row["error"])
-                    continue
-                wanted, why = case["background"].split(" ")
-                hexadecimal = "%02x%02x%02x" % tuple(map(int, wanted.split(",")))
-                self.assertEqual((row["background"], row["background_from"]), (hexadecimal, why))
+                if refused:
+                    self.assertIn(f"the image is refused: {refused} (", row["error"])
+                else:
+                    self.assertEqual((row["background"], row["background_from"]), wanted)
 
     def test_what_is_named_beside(self):
         """The texts that the page reads too."""

@@ -32,8 +32,8 @@ def read(data):
     ground = (GROUND,) if data.startswith(b"\x89") else ()
     try:
         text = nonobench.picture_of_image(data, *ground)
-    except nonobench.ImageFault as fault:
-        return None, fault.name
+    except nonobench.ImageError as error:
+        return None, error.name
     columns, _, maxval, *samples = map(int, text.split()[1:])
     triples = list(zip(samples[::3], samples[1::3], samples[2::3]))
     shown = {triple: nonobench.colour_shown(triple, maxval) for triple in set(triples)}
@@ -103,7 +103,7 @@ class Pictures(unittest.TestCase):
         data = image("PNG", "RGBA", pixels)
         self.assertEqual(nonobench.picture_of_image(data), p3(UNIQUE))
         self.assertEqual(nonobench.picture_of_image(data, (1, 2, 3)), p3(UNIQUE, (1, 2, 3)))
-        with self.assertRaises(nonobench.ImageFault) as caught:
+        with self.assertRaises(nonobench.ImageError) as caught:
             nonobench.picture_of_image(data, BLACK)
         self.assertEqual(caught.exception.name, "white and transparent")
         self.assertIn("name a background that no opaque cell has", str(caught.exception))
@@ -133,7 +133,7 @@ class Pictures(unittest.TestCase):
             (b"", "no image"),
             (b"something", "no image"),
         ):
-            with self.subTest(kind), self.assertRaises(nonobench.ImageFault) as caught:
+            with self.subTest(kind), self.assertRaises(nonobench.ImageError) as caught:
                 nonobench.picture_of_image(data)
             why = f"this is {kind}: convert it to PNG: nonobench.html opens it"
             self.assertEqual(str(caught.exception), why)
@@ -143,7 +143,7 @@ class Pictures(unittest.TestCase):
             (b"P4 121 1\n", "121 by 1"),
             (image("PNG", "RGB", [WHITE] * 121, (1, 121)), "1 by 121"),
         ):
-            with self.assertRaisesRegex(nonobench.ImageFault, f"^{size} pixels, and a puzzle has"):
+            with self.assertRaisesRegex(nonobench.ImageError, f"^{size} pixels, and a puzzle has"):
                 nonobench.picture_of_image(data)
 
     def test_long_texts_take_little_memory(self):
@@ -161,8 +161,8 @@ class Pictures(unittest.TestCase):
                 resource.setrlimit(resource.RLIMIT_AS, (300 << 20, 300 << 20))
                 try:
                     print(nonobench.picture_of_image(data).split()[4:])
-                except nonobench.ImageFault as fault:
-                    print(fault.name)"""
+                except nonobench.ImageError as error:
+                    print(error.name)"""
             words = [sys.executable, "-c", code]
             done = subprocess.run(words, check=True, capture_output=True, text=True)
             wanted = "[b'1', b'2', b'3']" if b"P6" in data else "[b'0', b'0', b'0']"

@@ -21,13 +21,14 @@ import nonobench
 from nonobench import (
     ANY_GIVEN,
     Block,
-    CertificateFault,
+    CertificateError,
     Given,
-    GivensFault,
-    LengthFault,
-    PictureFault,
+    GivensError,
+    ImageError,
+    LengthError,
+    PictureError,
     Ruling,
-    UnpublishedGiven,
+    UnpublishedGivenError,
     _answers,
 )
 
@@ -80,17 +81,17 @@ def told(call):
     """What a call answers, as the program tells it: standard output, what is said, status."""
     try:
         return str(call()), "", 0
-    except nonobench.Fault as fault:
-        return "", f"nonobench: {fault.text}\n", 1
+    except nonobench.NonobenchError as error:
+        return "", f"nonobench: {error.text}\n", 1
 
 
 def givens_of(call):
     """The givens that an answer names, whether they are published or not."""
     try:
         return call().givens
-    except UnpublishedGiven as fault:
-        return fault.givens
-    except nonobench.Fault:
+    except UnpublishedGivenError as error:
+        return error.givens
+    except nonobench.NonobenchError:
         return ()
 
 
@@ -164,7 +165,7 @@ class Answers(unittest.TestCase):
             bytearray(DIAGONAL), memoryview(GIVEN), published=iter([(2, 2), [1, 1]])
         )
         self.assertEqual(str(said), "certificate accepted, givens 1\n")
-        with self.assertRaises(UnpublishedGiven) as caught:
+        with self.assertRaises(UnpublishedGivenError) as caught:
             nonobench.check(DIAGONAL, GIVEN)
         self.assertEqual((caught.exception.name, caught.exception.line), ("UnpublishedGiven", 2))
         self.assertEqual(
@@ -178,7 +179,7 @@ class Answers(unittest.TestCase):
             (b"given 1 1\r\n", "BadLine", 1),
         ):
             with self.subTest(published), self.assertRaisesRegex(
-                GivensFault, f"^givens {name} at line {line}$"
+                GivensError, f"^givens {name} at line {line}$"
             ) as refused:
                 nonobench.check(DIAGONAL, GIVEN, published=published)
             self.assertEqual((refused.exception.name, refused.exception.line), (name, line))
@@ -186,13 +187,46 @@ class Answers(unittest.TestCase):
         self.assertEqual(
             (again.givens, str(again)), (((1, 1),), "certificate UnpublishedGiven at line 2")
         )
-        with self.assertRaises(CertificateFault) as caught:
+        with self.assertRaises(CertificateError) as caught:
             nonobench.check(DIAGONAL, b"nonocert 1\nline r 3\n")
         self.assertEqual((caught.exception.name, caught.exception.line), ("Place", 2))
-        with self.assertRaises(PictureFault) as caught:
+        with self.assertRaises(PictureError) as caught:
             nonobench.check(b"P3 1 1 1 0 0 2", b"")
         self.assertEqual((caught.exception.name, caught.exception.byte), ("SampleOver", 13))
         self.assertEqual(str(caught.exception), "ppm SampleOver at byte 13")
+
+    def test_errors(self):
+        """Each is a NonobenchError, a ValueError, with its name and place, also as a copy."""
+        clues = b"width 1\nheight 1\nrows\n1\ncolumns\n1\n"
+        long = b" " * 16777217
+        for call, kind, *told in (
+            (lambda: nonobench.clues(b"P3 1 1 1 0 0 2"), PictureError, "SampleOver", 13, None),
+            (lambda: nonobench.assess(clues, non=True), PictureError, "NoGoal", None, None),
+            (lambda: nonobench.check(DIAGONAL, b""), CertificateError, "NotCert", None, 1),
+            (
+                lambda: nonobench.check(DIAGONAL, GIVEN),
+                UnpublishedGivenError,
+                "UnpublishedGiven",
+                None,
+                2,
+            ),
+            (
+                lambda: nonobench.check(DIAGONAL, GIVEN, published=[(1, 3)]),
+                GivensError,
+                "Place",
+                None,
+                1,
+            ),
+            (lambda: nonobench.clues(long), LengthError, "TooLong", None, None),
+            (lambda: nonobench.picture_of_image(b"GIF89a"), ImageError, "not read", None, None),
+        ):
+            with self.subTest(kind), self.assertRaises(ValueError) as caught:
+                call()
+            for error in (caught.exception, pickle.loads(pickle.dumps(caught.exception))):
+                self.assertIs(type(error), kind)
+                self.assertIsInstance(error, nonobench.NonobenchError)
+                self.assertEqual([error.name, error.byte, error.line], told)
+                self.assertEqual(str(error), error.text)
 
     def test_clues(self):
         clues = nonobench.clues(b"P3 3 1 2 1 0 0 0 1 0 0 1 0")
@@ -224,7 +258,7 @@ class Answers(unittest.TestCase):
         # By its background this picture has no cell that is filled in.
         self.assertEqual(nonobench.audit(tile, background=(0, 0, 0)).verdict.ruling, Ruling.UNIQUE)
         for call in (nonobench.certify, nonobench.audit):
-            with self.assertRaisesRegex(PictureFault, "^ppm NotP3 at byte 0$"):
+            with self.assertRaisesRegex(PictureError, "^ppm NotP3 at byte 0$"):
                 call(b"P4")
         with self.assertRaises(ValueError):
             nonobench.audit(tile, -1)
@@ -243,19 +277,19 @@ class Answers(unittest.TestCase):
         # Nothing proves a picture that has another one: not the certificate of another picture, nor
         # lines of its own.
         for text in (nonobench.prove(pair).certificate, b"nonolemma 2\nline r1 c1 r2 c2\ndone\n"):
-            with self.assertRaises(CertificateFault):
+            with self.assertRaises(CertificateError):
                 nonobench.check(DIAGONAL, text, published=ANY_GIVEN)
-        with self.assertRaises(UnpublishedGiven) as caught:
+        with self.assertRaises(UnpublishedGivenError) as caught:
             nonobench.check(DIAGONAL, b"nonolemma" + b" 1" + GIVEN[10:])
         self.assertEqual((caught.exception.line, caught.exception.givens), (2, ((1, 1),)))
         # By its background this picture has no cell that is filled in.
         self.assertEqual(nonobench.prove(tile, (0, 0, 0)).ruling, Ruling.UNIQUE)
-        with self.assertRaisesRegex(PictureFault, "^ppm NotP3 at byte 0$"):
+        with self.assertRaisesRegex(PictureError, "^ppm NotP3 at byte 0$"):
             nonobench.prove(b"P4")
         with self.assertRaises(ValueError):
             nonobench.prove(tile, (1, 2))
         for published in ((), b" " * 16777217):
-            with self.assertRaises(LengthFault):
+            with self.assertRaises(LengthError):
                 nonobench.check(tile, b"" if published else b" " * 16777217, published=published)
 
     def test_as_many_givens_as_the_largest_picture_has_cells(self):
@@ -269,22 +303,21 @@ class Answers(unittest.TestCase):
         )
         for more in (b"given 1 1\n", b"given 121 1\n"):
             wrong = head + lines + more * 9 + b"done\n"
-            with self.assertRaises(CertificateFault) as caught:
+            with self.assertRaises(CertificateError) as caught:
                 nonobench.check(whole, wrong, published=ANY_GIVEN)
-            with self.assertRaisesRegex(CertificateFault, f"^{caught.exception}$"):
+            with self.assertRaisesRegex(CertificateError, f"^{caught.exception}$"):
                 nonobench.assess(whole, wrong, published=ANY_GIVEN)
         self.assertEqual(len(_answers.givens_of(head + b"given 1 1\n" * 14401)), 14400)
 
     def test_what_is_wrong_with_givens_of_clues_is_told_of_them(self):
-        """Of a .non text, whichever givens a certificate names: the puzzle itself is not at
-        fault."""
+        """Of a .non text, whichever givens a certificate names: the puzzle itself is right."""
         clues = b'width 2\nheight 1\nrows\n1\ncolumns\n1\n0\ngoal "10"\n'
         self.assertTrue(nonobench.assess(clues, non=True).is_fit)
         for lines, why in (
             (b"given 9 9\n", "Place at line 1"),
             (b"given 1 1\n" * 2, "Repeated at line 2"),
         ):
-            with self.assertRaisesRegex(GivensFault, f"^givens {why}$"):
+            with self.assertRaisesRegex(GivensError, f"^givens {why}$"):
                 nonobench.assess(
                     clues, b"nonocert 2\n" + lines + b"done\n", published=ANY_GIVEN, non=True
                 )
@@ -298,9 +331,9 @@ class Answers(unittest.TestCase):
             )
             try:
                 self.assertEqual(nonobench.check(picture, text).givens, ())
-            except CertificateFault:
+            except CertificateError:
                 count += 1
-            with self.assertRaises(CertificateFault):
+            with self.assertRaises(CertificateError):
                 nonobench.check(DIAGONAL, text, published=ANY_GIVEN)
         self.assertGreater(count, len(right) // 2)
 
@@ -362,9 +395,9 @@ class Answers(unittest.TestCase):
         for allowance in (-1, 100000):
             with self.assertRaises(ValueError):
                 nonobench.verdict(DIAGONAL, allowance)
-        with self.assertRaises(LengthFault):
+        with self.assertRaises(LengthError):
             nonobench.clues(b" " * 16777217)
-        with self.assertRaisesRegex(PictureFault, "^ppm NotP3 at byte 0$"):
+        with self.assertRaisesRegex(PictureError, "^ppm NotP3 at byte 0$"):
             nonobench.clues(b"")
         for columns, rows, cell, maxval in (
             (2, 2, (0, 0, 0), 255),
@@ -400,7 +433,7 @@ class Answers(unittest.TestCase):
         copied = pickle.loads(pickle.dumps(ANY_GIVEN))
         self.assertEqual(nonobench.check(DIAGONAL, GIVEN, published=copied).givens, ((1, 1),))
         self.assertEqual(nonobench.assess(DIAGONAL, GIVEN, published=copied).named, ((1, 1),))
-        with self.assertRaisesRegex(CertificateFault, "^certificate NotDone at line 3$"):
+        with self.assertRaisesRegex(CertificateError, "^certificate NotDone at line 3$"):
             nonobench.assess(DIAGONAL, b"nonocert 2\ngiven 1 1\ndone\n", published=copied)
 
     def test_long_text(self):
@@ -430,12 +463,12 @@ class Answers(unittest.TestCase):
         ]
         for file, hint in changed:
             with self.subTest(file), self.assertRaisesRegex(
-                CertificateFault, "NotCert at line 1"
+                CertificateError, "NotCert at line 1"
             ) as told:
                 nonobench.check(picture, file)
             self.assertEqual(nonobench.hint_of(told.exception, file), hint)
         late = text.replace("\n", "\n\r\n", 1).encode()
-        with self.assertRaisesRegex(CertificateFault, "BadLine at line 2") as told:
+        with self.assertRaisesRegex(CertificateError, "BadLine at line 2") as told:
             nonobench.check(picture, late)
         self.assertEqual(nonobench.hint_of(told.exception, late), "")
 
@@ -453,9 +486,9 @@ class Answers(unittest.TestCase):
             ):
                 try:
                     call()
-                except nonobench.Fault as fault:
+                except nonobench.NonobenchError as error:
                     self.assertRegex(
-                        fault.text, r"^(ppm|givens|certificate) \w+ at (byte|line) \d+$"
+                        error.text, r"^(ppm|givens|certificate) \w+ at (byte|line) \d+$"
                     )
 
     def test_threads(self):

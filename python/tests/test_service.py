@@ -16,6 +16,7 @@ from pathlib import Path
 
 import nonobench
 import pytest
+from audit_parts import background_cases
 from nonobench.service import POOL, create_app, png_of
 from PIL import Image
 
@@ -87,6 +88,19 @@ def test_the_site_names_givens_and_background(client):
     assert (row["verdict"], row["background"]) == ("ambiguous", "000028")
     row = row_of(client, "/assess", puzzle=CROSS, background="0,0,0")
     assert (row["file"], row["verdict"]) == ("puzzle", "ambiguous")
+
+
+def test_backgrounds(client):
+    """The cases of the audit."""
+    for name, data, named, wanted, refused in background_cases():
+        files = {"puzzle": (io.BytesIO(data), "one.png")}
+        if named:
+            files["background"] = named.decode()
+        row = client.post("/assess", data=files, content_type="multipart/form-data").get_json()
+        if refused:
+            assert f"the image is refused: {refused} (" in row["error"], name
+        else:
+            assert (row["background"], row["background_from"]) == wanted, name
 
 
 def test_what_a_strangers_xml_names_is_not_believed(client):

@@ -7,6 +7,7 @@ import contextlib
 import gc
 import os
 import random
+import shutil
 import signal
 import subprocess
 import sys
@@ -14,77 +15,56 @@ import tempfile
 import textwrap
 import threading
 import time
-import types
 import unittest
 import unittest.mock
 from pathlib import Path
 
 sys.path.insert(0, str(Path(__file__).resolve().parent))
-from processes import children, is_running, seen  # noqa: E402
+from processes import children, is_running, only_child, seen  # noqa: E402
 
 import nonobench  # noqa: E402
 from nonobench import (  # noqa: E402
-    CertificateFault,
+    CertificateError,
     Given,
-    GivensFault,
-    LengthFault,
-    PictureFault,
-    UnpublishedGiven,
+    GivensError,
+    LengthError,
+    PictureError,
+    UnpublishedGivenError,
 )
 
 PACKAGE = Path(nonobench.__file__).resolve().parent.parent
+LIBRARY = Path(os.environ.get("NONOBENCH_LIBRARY", PACKAGE / "nonobench" / "libnonobench.so"))
 # Two rows, black and white, white and black: another picture has the clues, and a given decides it.
 DIAGONAL = b"P3 2 2 255 0 0 0 255 255 255 255 255 255 0 0 0\n"
 GIVEN = b"nonocert 2\ngiven 1 1\nline r 1\nline c 1\nline r 2\ndone\n"
 LEMMAS = b"nonolemma 1\ngiven 1 1\nline r 1\nline c 1\nline r 2\ndone\n"
 TILE = b"P3 1 1 1 0 0 0"
-# White, and three colours in turn along each line: it has so many solutions that no certificate of
-# all cells ends in time.
-ENDLESS = b"P3 60 60 3 " + b"".join(
-    b"%d 0 0 " % at if at else b"3 3 3 "
-    for at in ((row + column) % 4 for row in range(60) for column in range(60))
-)
-
-
 # A chequerboard of 60 by 60 cells in four colours, whose verdict takes longer than anybody waits.
 INKS = ("1 1 1", "0 0 0", "1 0 0", "0 0 1")
 ENDLESS = f"P3 60 60 1 {' '.join(INKS[(at // 60 + at % 60) % 4] for at in range(3600))}\n".encode()
 
 
+def run_program(program, **more):
+    """Runs a program of Python that may use the package and these tests' helpers."""
+    folders = os.pathsep.join([str(PACKAGE), str(Path(__file__).resolve().parent)])
+    return subprocess.run(
+        [sys.executable, "-c", textwrap.dedent(program)],
+        env={**os.environ, "PYTHONPATH": folders, **more},
+        capture_output=True,
+        text=True,
+        check=False,
+    )
+
+
 class Workers(unittest.TestCase):
     """Questions to another process."""
 
-    def test_a_process_is_ended_whatever_a_handler_raises(self):
-        """It may be raised between any two steps, also while the finalizer of the process has
-        forgotten it and not yet begun."""
-        worker = nonobench.Worker(seconds=300)
-        worker.check(TILE, worker.certify(TILE))
-        process = worker._process
-
-        def interrupt(frame, event, _):
-            if (
-                frame.f_code is type(process.end).__call__.__code__  # noqa: E721
-                and event == "line"
-                and not process.end.alive
-            ):
-                raise KeyboardInterrupt
-            return interrupt
-
-        before = sys.gettrace()
-        sys.settrace(interrupt)
-        try:
-            with contextlib.suppress(KeyboardInterrupt):
-                worker.close()
-        finally:
-            sys.settrace(before)
-        self.assertFalse(is_running(process.pid))
-
-    def test_answers_and_faults(self):
+    def test_answers_and_errors(self):
         with nonobench.Worker(seconds=300) as worker:
             self.assertEqual(
                 worker.check(DIAGONAL, GIVEN, published=[(1, 1)]).givens, (Given(1, 1),)
             )
-            with self.assertRaises(UnpublishedGiven) as caught:
+            with self.assertRaises(UnpublishedGivenError) as caught:
                 worker.check(DIAGONAL, GIVEN)
             self.assertEqual(caught.exception.givens, (Given(1, 1),))
             self.assertEqual(worker.clues(DIAGONAL), nonobench.clues(DIAGONAL))
@@ -95,22 +75,24 @@ class Workers(unittest.TestCase):
             self.assertEqual(worker.prove(TILE), nonobench.prove(TILE))
             self.assertEqual(worker.prove(DIAGONAL), nonobench.prove(DIAGONAL))
             self.assertEqual(
-                str(worker.check(TILE, worker.prove(TILE).certificate)), "certificate accepted\n"
+                str(worker.check(TILE, worker.prove(TILE).certificate)),
+                "certificate accepted\n",
             )
             self.assertEqual(
-                worker.check(DIAGONAL, LEMMAS, published=b"given 1 1\n").givens, (Given(1, 1),)
+                worker.check(DIAGONAL, LEMMAS, published=b"given 1 1\n").givens,
+                (Given(1, 1),),
             )
-            with self.assertRaisesRegex(GivensFault, "^givens Place at line 1$"):
+            with self.assertRaisesRegex(GivensError, "^givens Place at line 1$"):
                 worker.check(DIAGONAL, LEMMAS, published=[(1, 3)])
-            with self.assertRaises(UnpublishedGiven) as caught:
+            with self.assertRaises(UnpublishedGivenError) as caught:
                 worker.check(DIAGONAL, LEMMAS)
             self.assertEqual((caught.exception.line, caught.exception.givens), (2, (Given(1, 1),)))
-            with self.assertRaises(LengthFault):
+            with self.assertRaises(LengthError):
                 worker.check(DIAGONAL, LEMMAS.ljust(16777217))
-            with self.assertRaises(CertificateFault) as caught:
+            with self.assertRaises(CertificateError) as caught:
                 worker.check(DIAGONAL, b"")
             self.assertEqual((caught.exception.name, caught.exception.line), ("NotCert", 1))
-            with self.assertRaisesRegex(PictureFault, "^ppm NotP3 at byte 0$"):
+            with self.assertRaisesRegex(PictureError, "^ppm NotP3 at byte 0$"):
                 worker.clues(b"")
             with self.assertRaises(ValueError):
                 worker.verdict(DIAGONAL, -1)
@@ -118,54 +100,57 @@ class Workers(unittest.TestCase):
                 worker.clues(DIAGONAL, (1, 2, 65536))
 
     def test_time(self):
-        # A process that is stopped never answers, however fast the machine.
-        with nonobench.Worker(seconds=300) as worker:
-            worker.clues(DIAGONAL)
-            worker._seconds = 0.2
-            os.kill(worker._process.pid, signal.SIGSTOP)
-            with self.assertRaisesRegex(TimeoutError, "^no answer within 0.2 seconds$"):
-                worker.clues(DIAGONAL)
-            # A question that finds no room in the stream.
-            worker._seconds = 300
-            worker.clues(DIAGONAL)
-            worker._seconds = 0.2
-            os.kill(worker._process.pid, signal.SIGSTOP)
+        # A verdict that nobody waits for, and a certificate for which the stream has no room.
+        for seconds, question in (
+            (0.2, ("verdict", ENDLESS)),
+            (0.001, ("check", DIAGONAL, b" " * 16777216)),
+        ):
+            with nonobench.Worker(seconds=seconds) as worker, self.assertRaisesRegex(
+                TimeoutError, f"^no answer within {seconds} seconds$"
+            ):
+                told(worker, *question)
+        with nonobench.Worker(seconds=2) as worker:
             with self.assertRaises(TimeoutError):
-                worker.check(DIAGONAL, b" " * 16777216)
-            worker._seconds = 300
-            self.assertEqual(worker.clues(DIAGONAL), nonobench.clues(DIAGONAL))
+                worker.verdict(ENDLESS)
+            found = None
+            while not found:  # a process that starts may itself need more than two seconds
+                with contextlib.suppress(TimeoutError):
+                    found = worker.clues(DIAGONAL)
+            self.assertEqual(found, nonobench.clues(DIAGONAL))
 
     def test_a_program_that_fails(self):
-        kept = nonobench._process.PATH
-        self.addCleanup(setattr, nonobench._process, "PATH", kept)
-        nonobench._process.PATH = "/nowhere/libnonobench.so"
-        with nonobench.Worker(seconds=300) as worker, self.assertRaisesRegex(
-            RuntimeError, "the worker's program failed"
-        ):
-            worker.clues(DIAGONAL)
+        # The library goes after this program has loaded it.
+        with tempfile.TemporaryDirectory() as folder:
+            library = Path(shutil.copy(LIBRARY, folder))
+            program = f"""
+                import os, nonobench
+                worker = nonobench.Worker(seconds=300)
+                os.remove({str(library)!r})
+                try:
+                    worker.clues({DIAGONAL!r})
+                except RuntimeError as error:
+                    print(error)
+            """
+            run = run_program(program, NONOBENCH_LIBRARY=str(library))
+            self.assertIn("the worker's program failed", run.stdout)
 
     def test_no_standard_streams(self):
         # A program may have closed its own: then the stream has their numbers.
-        program = textwrap.dedent(
-            f"""
+        program = f"""
             import os, nonobench
             for at in range(3):
                 os.close(at)
             worker = nonobench.Worker(seconds=300)
             os._exit(0 if worker.clues({DIAGONAL!r}) == nonobench.clues({DIAGONAL!r}) else 1)
         """
-        )
-        env = {**os.environ, "PYTHONPATH": str(PACKAGE)}
-        self.assertEqual(
-            subprocess.run([sys.executable, "-c", program], env=env, check=False).returncode, 0
-        )
+        self.assertEqual(run_program(program).returncode, 0)
 
     def test_memory(self):
         # The question alone takes more than is left beside the interpreter.
         with nonobench.Worker(seconds=300, memory=40 << 20) as worker:
             with self.assertRaises(MemoryError):
                 worker.check(DIAGONAL, b" " * 16777216)
-        with nonobench.Worker(seconds=300) as worker, self.assertRaises(CertificateFault):
+        with nonobench.Worker(seconds=300) as worker, self.assertRaises(CertificateError):
             worker.check(DIAGONAL, b" " * 16777216)
         # The answer alone takes more than there is.
         for memory in (1, 20):
@@ -220,9 +205,10 @@ class Workers(unittest.TestCase):
 
     def test_a_process_that_ended_is_replaced(self):
         with nonobench.Worker(seconds=300) as worker:
-            worker.clues(DIAGONAL)
-            os.kill(worker._process.pid, signal.SIGKILL)
-            worker._process._process.wait()
+            pid = only_child(lambda: worker.clues(DIAGONAL))
+            os.kill(pid, signal.SIGKILL)
+            while is_running(pid):
+                time.sleep(0.01)
             self.assertEqual(worker.clues(DIAGONAL), nonobench.clues(DIAGONAL))
 
     def test_threads(self):
@@ -246,11 +232,32 @@ class Workers(unittest.TestCase):
         for words, verdict in answers:
             self.assertEqual(verdict, wanted[words])
 
+    def test_the_wait_for_a_turn_counts(self):
+        """Twenty calls of a second each, none of which is answered, end long before the twenty
+        seconds that they would take one after another."""
+        ended = []
+        with nonobench.Worker(seconds=1) as worker:
+
+            def ask():
+                with self.assertRaisesRegex(TimeoutError, "^no answer within 1 seconds$"):
+                    worker.verdict(ENDLESS)
+                ended.append(time.monotonic())
+
+            threads = [threading.Thread(target=ask) for _ in range(20)]
+            begun = time.monotonic()
+            for thread in threads:
+                thread.start()
+            for thread in threads:
+                thread.join()
+        self.assertEqual(len(ended), 20)
+        self.assertLess(max(ended) - begun, 15)
+
     def test_a_program_that_is_no_python(self):
         for program in ("", None, "/bin/true", "/bin/sh"):
             with self.subTest(program), unittest.mock.patch.object(sys, "executable", program):
                 with self.assertRaisesRegex(
-                    OSError, f"^a Worker needs a Python in sys.executable, and not {program!r}$"
+                    OSError,
+                    f"^a Worker needs a Python in sys.executable, and not {program!r}$",
                 ):
                     nonobench.Worker().clues(TILE)
 
@@ -278,11 +285,11 @@ QUESTIONS = (
 
 
 def told(asked, name, *words):
-    """What somebody answers to a question, or the fault."""
+    """What somebody answers to a question, or the error."""
     try:
         return getattr(asked, name)(*words)
-    except nonobench.Fault as fault:
-        return str(fault)
+    except nonobench.NonobenchError as error:
+        return str(error)
 
 
 class Interrupts(unittest.TestCase):
@@ -300,6 +307,7 @@ class Interrupts(unittest.TestCase):
         most = int(os.environ.get("INTERRUPTS", "200"))
         wanted = {question: told(nonobench, *question) for question in QUESTIONS}
         struck = compared = 0
+        before = set(children(os.getpid()))  # another test's may be there
         with nonobench.Worker(seconds=300) as worker:
             begun = time.perf_counter()
             told(worker, *QUESTIONS[0])
@@ -326,27 +334,8 @@ class Interrupts(unittest.TestCase):
                     compared += 1
         self.assertGreater(compared, most / 3)
         print(f"{struck} calls interrupted, {compared} answers compared")
-        until = time.monotonic() + 300
-        while children(os.getpid()) and time.monotonic() < until:
-            gc.collect()
-            time.sleep(0.1)
-        self.assertEqual(children(os.getpid()), [])
-
-    def test_an_answer_with_another_number_is_refused(self):
-        for number in (1, 77):  # of the question before, and of none that there was
-            with self.subTest(number), nonobench.Worker(seconds=300) as worker:
-                worker.clues(DIAGONAL)
-                # A question whose answer nobody takes, and is not there yet when the next one is
-                # asked.
-                worker._process.put(number, b"1 300 0", DIAGONAL, b"", GIVEN)
-                worker._process.write()
-                worker._process.is_waiting = lambda: True
-                with self.assertRaisesRegex(
-                    RuntimeError, f"^the worker answered question {number} instead of 2$"
-                ):
-                    worker.check(TILE, b"junk", published=nonobench.ANY_GIVEN)
-                with self.assertRaisesRegex(CertificateFault, "NotCert"):
-                    worker.check(TILE, b"junk", published=nonobench.ANY_GIVEN)
+        gc.collect()
+        self.assertEqual(set(children(os.getpid())) - before, set())
 
     def test_what_a_handler_raises_is_raised(self):
         def late(*_):
@@ -354,8 +343,7 @@ class Interrupts(unittest.TestCase):
 
         signal.signal(signal.SIGALRM, late)
         with nonobench.Worker(seconds=300) as worker:
-            worker.clues(DIAGONAL)
-            os.kill(worker._process.pid, signal.SIGSTOP)
+            os.kill(only_child(lambda: worker.clues(DIAGONAL)), signal.SIGSTOP)
             signal.setitimer(signal.ITIMER_REAL, 0.2)
             with self.assertRaisesRegex(TimeoutError, "^the handler's own$"):
                 worker.clues(DIAGONAL)
@@ -363,8 +351,7 @@ class Interrupts(unittest.TestCase):
     def test_a_handler_asks_while_a_call_waits(self):
         answers = []
         with nonobench.Worker(seconds=300) as worker:
-            worker.clues(DIAGONAL)
-            pid = worker._process.pid
+            pid = only_child(lambda: worker.clues(DIAGONAL))
             os.kill(pid, signal.SIGSTOP)
 
             def ask(*_):
@@ -378,8 +365,7 @@ class Interrupts(unittest.TestCase):
 
     def test_a_handler_closes_while_a_call_waits(self):
         with nonobench.Worker(seconds=300) as worker:
-            worker.clues(DIAGONAL)
-            pid = worker._process.pid
+            pid = only_child(lambda: worker.clues(DIAGONAL))
             os.kill(pid, signal.SIGSTOP)
 
             def close(*_):
@@ -395,35 +381,9 @@ class Interrupts(unittest.TestCase):
             self.assertFalse(is_running(pid))
             self.assertEqual(worker.clues(DIAGONAL), nonobench.clues(DIAGONAL))
 
-    def test_what_a_handler_raises_while_the_process_is_looked_at_is_raised(self):
-        def late(*_):
-            raise TimeoutError("the handler's own")
-
-        with nonobench.Worker(seconds=300) as worker:
-            worker.clues(DIAGONAL)
-            # As where the signal comes just then.
-            worker._process._stream = types.SimpleNamespace(recv=late)
-            with self.assertRaisesRegex(TimeoutError, "^the handler's own$"):
-                worker.clues(DIAGONAL)
-            self.assertEqual(worker.clues(DIAGONAL), nonobench.clues(DIAGONAL))
-
-    def test_an_answer_that_lies_there_is_not_taken(self):
-        with nonobench.Worker(seconds=300) as worker:
-            worker.clues(DIAGONAL)
-            process = worker._process
-            process.put(2, b"1 300 0", DIAGONAL, b"", GIVEN)
-            process.write()
-            while process.is_waiting():
-                time.sleep(0.01)
-            # It even has the number of the next question.
-            with self.assertRaisesRegex(CertificateFault, "NotCert"):
-                worker.check(TILE, b"junk", published=nonobench.ANY_GIVEN)
-            self.assertNotEqual(worker._process.pid, process.pid)
-
     def test_an_interrupted_process_is_ended(self):
         with nonobench.Worker(seconds=300) as worker:
-            worker.clues(DIAGONAL)
-            pid = worker._process.pid
+            pid = only_child(lambda: worker.clues(DIAGONAL))
             os.kill(pid, signal.SIGSTOP)
             signal.setitimer(signal.ITIMER_REAL, 0.2)
             with self.assertRaises(Interrupt):
@@ -433,42 +393,39 @@ class Interrupts(unittest.TestCase):
 
     def test_a_child_that_is_forked_asks_a_process_of_its_own(self):
         with nonobench.Worker(seconds=300) as worker:
-            worker.clues(DIAGONAL)
-            pid = worker._process.pid
-            with worker._lock:  # as a thread holds it while another one forks
-                child = os.fork()
-                if child == 0:
-                    try:
-                        # before a call, which another thread may make at the same time
-                        is_new = worker._process is None
-                        worker.verdict(TILE)
-                        is_good = (
-                            is_new
-                            and worker._process.pid != pid
-                            and worker.clues(DIAGONAL) == nonobench.clues(DIAGONAL)
-                        )
-                        worker.close()
-                        os._exit(0 if is_good else 1)
-                    finally:
-                        os._exit(2)
+            pid = only_child(lambda: worker.clues(DIAGONAL))
+            os.kill(pid, signal.SIGSTOP)
+            # The other thread waits in a call while this one forks.
+            asking = threading.Thread(target=lambda: worker.clues(DIAGONAL))
+            asking.start()
+            child = os.fork()
+            if child == 0:
+                try:
+                    own = only_child(lambda: worker.verdict(TILE))
+                    is_good = own != pid and worker.clues(DIAGONAL) == nonobench.clues(DIAGONAL)
+                    worker.close()
+                    os._exit(0 if is_good else 1)
+                finally:
+                    os._exit(2)
             self.assertEqual(os.waitpid(child, 0)[1], 0)
+            os.kill(pid, signal.SIGCONT)
+            asking.join()
             self.assertEqual(worker.clues(DIAGONAL), nonobench.clues(DIAGONAL))
-            self.assertEqual(worker._process.pid, pid)
+            self.assertTrue(is_running(pid))
 
 
 class Ends(unittest.TestCase):
     """Processes do not outlive who may ask them."""
 
     def test_a_worker_that_is_dropped(self):
-        pids = []
+        def dropped():
+            worker = nonobench.Worker(seconds=300)
+            worker.me = worker  # a cycle, so that only the collector finds it
+            return only_child(lambda: worker.clues(DIAGONAL))
+
         gc.collect()  # what other tests left
         before = len(os.listdir("/proc/self/fd"))
-        for _ in range(10):
-            worker = nonobench.Worker(seconds=300)
-            worker.clues(DIAGONAL)
-            pids.append(worker._process.pid)
-            worker.me = worker  # a cycle, so that only the collector finds it
-            del worker
+        pids = [dropped() for _ in range(10)]
         gc.collect()
         for pid in pids:
             self.assert_ends(pid)
@@ -484,26 +441,21 @@ class Ends(unittest.TestCase):
     def test_a_program_that_ends(self):
         program = f"""
             import os, signal, nonobench
+            from processes import only_child
             worker = nonobench.Worker(seconds=300)
-            worker.clues({DIAGONAL!r})
-            print(worker._process.pid, flush=True)
+            print(only_child(lambda: worker.clues({DIAGONAL!r})), flush=True)
         """
         for end in ("", "os.kill(os.getpid(), signal.SIGKILL)"):
-            run = subprocess.run(
-                [sys.executable, "-c", textwrap.dedent(program) + end],
-                env={**os.environ, "PYTHONPATH": str(PACKAGE)},
-                capture_output=True,
-                text=True,
-                check=False,
-            )
+            run = run_program(textwrap.dedent(program) + end)
             self.assert_ends(int(run.stdout))
 
     def test_a_program_that_is_killed_during_a_call(self):
         program = f"""
-            import nonobench
+            import sys, nonobench
+            sys.path.append({str(Path(__file__).resolve().parent)!r})
+            from processes import only_child
             worker = nonobench.Worker(seconds=99999)
-            worker.clues({DIAGONAL!r})
-            print(worker._process.pid, flush=True)
+            print(only_child(lambda: worker.clues({DIAGONAL!r})), flush=True)
             worker.verdict({ENDLESS!r})
         """
         run = subprocess.Popen(
@@ -565,13 +517,14 @@ class Folders(unittest.TestCase):
             program = textwrap.dedent(
                 f"""
                 import os, sys
-                sys.path.append({str(PACKAGE)!r})
+                sys.path += {[str(PACKAGE), str(Path(__file__).resolve().parent)]!r}
                 os.environ.update(PYTHONPATH={folder!r}, PYTHONSTARTUP={folder + "/os.py"!r}, PYTHONHOME='')
                 import nonobench
+                from processes import only_child
                 os.chdir({folder!r})
                 with nonobench.Worker(seconds=300, memory=1 << 30) as worker:
-                    print(worker.clues({DIAGONAL!r}), end="")
-                    limits = open(f"/proc/{{worker._process.pid}}/limits").read()
+                    pid = only_child(lambda: print(worker.clues({DIAGONAL!r}), end=""))
+                    limits = open(f"/proc/{{pid}}/limits").read()
                 print([line for line in limits.splitlines() if "address space" in line][0].split()[3])
             """  # noqa: E501
             )
@@ -583,14 +536,14 @@ class Folders(unittest.TestCase):
                 check=False,
             )
             self.assertEqual(
-                (run.stdout, run.stderr), (f"{nonobench.clues(DIAGONAL)}{1 << 30}\n", "")
+                (run.stdout, run.stderr),
+                (f"{nonobench.clues(DIAGONAL)}{1 << 30}\n", ""),
             )
             self.assertFalse(mark.exists(), mark.exists() and mark.read_text(encoding="utf-8"))
 
     def test_a_library_that_is_named_from_the_current_folder(self):
-        library = nonobench._library.PATH
         with tempfile.TemporaryDirectory() as folder, tempfile.TemporaryDirectory() as other:
-            Path(folder, "named.so").symlink_to(library)
+            Path(folder, "named.so").symlink_to(LIBRARY)
             Path(folder, "in").mkdir()
             Path(other, "link").symlink_to(Path(folder, "in"))
             Path(other, "named.so").write_bytes(b"no library")

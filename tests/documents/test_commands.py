@@ -1,5 +1,6 @@
-"""Runs the commands of README.md, docs/TUTORIAL.md and docs/RECIPES.md, each page's in one folder,
-and compares what they print with what the page shows.
+"""Runs the commands of README.md, of docs/RECIPES.md and of the READMEs of the packages, each
+page's in one folder, and compares what they print with what the page shows. (The other documents
+have none, as .ci/prose.py sees.)
 
 README's folder has a copy of what its commands name. So its commands of installing are run, and
 install the release below a home of their own. As on a new account, nothing of that is on the PATH.
@@ -7,9 +8,10 @@ install the release below a home of their own. As on a new account, nothing of t
 A block that begins with ```sh is run; it must end with status 0. A following block that begins with
 ```text is all that it prints, on standard output and standard error. One that begins with ```sh
 build is not run: its commands would prove everything again, install packages, or serve without end
-(.ci/prose.py knows them). ```sh needs TOOL is left out if the tool is missing. A block that begins
-with ```sh sites wants what a reader has installed: the wheel's command and library, and below
-PREFIX the C library. It may also say how far an audit is."""
+(.ci/prose.py knows them). A block that begins with ```sh sites wants what a reader has installed:
+the wheel's command and library, and below PREFIX the C library. It may also say how far an audit
+is. The READMEs of the packages have blocks of no or of another language: what they need comes
+before them here."""
 
 import difflib
 import os
@@ -20,52 +22,27 @@ import sys
 import zipfile
 
 import pytest
-from tried import ROOT, clean_env, ended, needs
+from tried import EXAMPLES, ROOT, clean_env, ended, needs, passes
 
 PROGRESS = r'(?m)^nonobench-audit: [0-9]+( of [0-9]+)? files, .*\n'
-PAGES = {
-    'README': ROOT / 'README.md',
-    'TUTORIAL': ROOT / 'docs' / 'TUTORIAL.md',
-    'RECIPES': ROOT / 'docs' / 'RECIPES.md',
-}
+README = ROOT / 'README.md'
+RECIPES = ROOT / 'docs' / 'RECIPES.md'
 
 
-def blocks_of(page, kind):
-    """The commands of a page's blocks of a kind with what the tool is that they need, and what they
-    print, or None."""
+def blocks_of(page, first):
+    """The commands of a page's blocks that begin with a line, and what they print, or None."""
     found = []
-    for first, content in re.findall(r'(?ms)^```([^\n]+)\n(.*?)^```$', page.read_text()):
-        words = first.split()
-        if words[0] == 'sh':
-            found.append([content, words[1:], None])
-        elif words[0] == 'text' and found and found[-1][2] is None:
-            found[-1][2] = content
-    return [
-        (commands, words[1] if words[:1] == ['needs'] else None, printed)
-        for commands, words, printed in found
-        if kind(words)
-    ]
-
-
-def has(tool):
-    """Whether a tool is there. ImageMagick is known by what it says of itself, since other programs
-    are called convert too."""
-    if tool == 'imagemagick':
-        return (
-            bool(shutil.which('convert'))
-            and 'Version: ImageMagick'
-            in subprocess.run(['convert', '-version'], capture_output=True, text=True).stdout
-        )
-    return bool(shutil.which(tool))
+    for line, content in re.findall(r'(?ms)^```([^\n]*)\n(.*?)^```$', page.read_text()):
+        if line == 'text' and found and found[-1][1] is None:
+            found[-1][1] = content
+        else:
+            found.append([content if line == first else None, None])
+    return [(commands, printed) for commands, printed in found if commands is not None]
 
 
 def run_blocks(blocks, folder, env, without=None):
-    """Runs blocks one after the other; gives the tools that were missing."""
-    missing = []
-    for commands, tool, wanted in blocks:
-        if tool and not has(tool):
-            missing.append(tool)
-            continue
+    """Runs blocks one after the other."""
+    for commands, wanted in blocks:
         run = ended(
             ['bash', '-e', '-c', commands],
             cwd=folder,
@@ -77,60 +54,34 @@ def run_blocks(blocks, folder, env, without=None):
         assert run.status == 0, f'{commands}\nended with {run.status}:\n{printed[-3000:]}'
         printed = re.sub(without, '', printed) if without else printed
         if wanted is not None and printed != wanted:
-            pytest.fail(
-                commands
-                + ''.join(
-                    difflib.unified_diff(
-                        wanted.splitlines(True), printed.splitlines(True), 'the page', 'printed'
-                    )
-                ),
-                pytrace=False,
-            )
-    return missing
+            lines = wanted.splitlines(True), printed.splitlines(True)
+            told = difflib.unified_diff(*lines, 'the page', 'printed')
+            pytest.fail(commands + ''.join(told), pytrace=False)
 
 
-def plain_blocks(page):
-    """The blocks of a page that are run with the program alone."""
-    return blocks_of(PAGES[page], lambda words: not words or words[0] == 'needs')
-
-
-@pytest.mark.parametrize(
-    'page', [page for page in PAGES if page != 'RECIPES' or plain_blocks(page)]
-)
-def test_commands(kept, page, tmp_path):
+def test_commands_of_readme(tmp_path):
     (tmp_path / 'home').mkdir()
-    here = tmp_path / page
+    here = tmp_path / 'checkout'
     here.mkdir()
-    if page == 'README':
-        for name in ('examples', 'packages', 'dist'):
-            (here / name).symlink_to(ROOT / name)
-        shutil.copy(ROOT / 'install', here)
-    else:
-        (tmp_path / 'bin').mkdir()
-        shutil.copy(kept.program('nonobench'), tmp_path / 'bin')
-    blocks = plain_blocks(page)
+    for name in ('examples', 'packages', 'dist'):
+        (here / name).symlink_to(ROOT / name)
+    shutil.copy(ROOT / 'install', here)
+    blocks = blocks_of(README, 'sh')
     assert blocks
-    env = {
-        **os.environ,
-        'PATH': f'{tmp_path}/bin:{os.environ["PATH"]}',
-        'HOME': f'{tmp_path}/home',
-        'NONOBENCH': str(ROOT),
-    }
+    env = {**os.environ, 'HOME': f'{tmp_path}/home'}
     env.pop('CDPATH', None)
-    missing = run_blocks(blocks, here, env)
-    if missing:
-        pytest.skip(f'in {page}, the commands that need {", ".join(missing)}, which is missing')
+    run_blocks(blocks, here, env)
 
 
 def test_python_of_readme(tmp_path):
     """README's block in Python is not refused, with the wheel that README installs."""
-    [wheel] = re.findall(r'pip install (dist/\S+\.whl)', PAGES['README'].read_text())
+    [wheel] = re.findall(r'pip install (dist/\S+\.whl)', README.read_text())
     with zipfile.ZipFile(ROOT / wheel) as packed:
         packed.extractall(tmp_path)
-    blocks = re.findall(r'(?ms)^```python\n(.*?)^```$', PAGES['README'].read_text())
+    blocks = blocks_of(README, 'python')
     assert blocks
     without = {name: value for name, value in os.environ.items() if name != 'NONOBENCH_LIBRARY'}
-    for block in blocks:
+    for block, _ in blocks:
         run = ended(
             [sys.executable, '-c', block], cwd=ROOT, env={**without, 'PYTHONPATH': str(tmp_path)}
         )
@@ -139,7 +90,7 @@ def test_python_of_readme(tmp_path):
 
 def for_sites(page):
     """The blocks of a page that want what a reader has installed."""
-    blocks = blocks_of(page, lambda words: words == ['sites'])
+    blocks = blocks_of(page, 'sh sites')
     assert len(blocks) > 1
     return blocks
 
@@ -171,7 +122,7 @@ def test_commands_for_sites(kept, library, tmp_path):
         'PYTHONPATH': str(ROOT / 'python' / 'src'),
         'PATH': f'{installed}/bin:{os.environ["PATH"]}',
     }
-    run_blocks(for_sites(PAGES['RECIPES']), here, env, without=PROGRESS)
+    run_blocks(for_sites(RECIPES), here, env, without=PROGRESS)
 
 
 @pytest.mark.all
@@ -187,3 +138,68 @@ def test_commands_for_sites_by_the_archive(installed, tmp_path):
         PYTHONPATH=installed / 'lib' / 'nonobench',
     )
     run_blocks(for_sites(shown / 'docs' / 'RECIPES.md'), tmp_path, env, without=PROGRESS)
+
+
+# ---- the READMEs of the packages
+
+
+def test_commands_of_the_examples(nonobench, tmp_path):
+    """Each session prints the file with its answers."""
+    shutil.copy(nonobench, tmp_path)
+    env = {**os.environ, 'PATH': f'{tmp_path}:{os.environ["PATH"]}'}
+    [(block, _)] = blocks_of(EXAMPLES / 'README.md', '')
+    for command in block.splitlines():
+        [session] = re.findall(r'< (\S+)\.session$', command)
+        run_blocks([(command, (ROOT / f'{session}.out').read_text())], ROOT, env)
+
+
+def test_python_of_its_readme(library, tmp_path):
+    """Its blocks in Python, over the picture and the certificate of an example."""
+    pytest.importorskip('PIL', reason='there is no Pillow')
+    blocks = blocks_of(ROOT / 'python' / 'README.md', 'python')
+    assert len(blocks) > 3
+    begin = """from pathlib import Path
+examples = Path(EXAMPLES)
+picture = (examples / 'diagonal.ppm').read_bytes()
+certificate = (examples / 'diagonal.ppm.cert').read_bytes()
+data = (examples / 'duck.png').read_bytes()
+""".replace(
+        'EXAMPLES', repr(str(EXAMPLES))
+    )
+    text = begin + ''.join(block for block, _ in blocks)
+    run = ended([sys.executable, '-c', text], cwd=tmp_path)
+    assert (run.status, run.wrote, run.said) == (0, b'heart.png False ambiguous\n', b'')
+
+
+@pytest.mark.all
+def test_commands_of_the_readme_for_npm(npm, tmp_path):
+    """Its commands and its blocks in JavaScript, where the package is installed."""
+    needs('npx')
+    page = ROOT / 'packages' / 'npm' / 'README.md'
+    for ending in ('ppm', 'cert'):
+        name = {'ppm': 'diagonal.ppm', 'cert': 'diagonal.ppm.cert'}[ending]
+        shutil.copy(EXAMPLES / name, npm / f'picture.{ending}')
+    [command] = re.findall(r'^npx (nonobench check .*)$', page.read_text(), re.MULTILINE)
+    run_blocks([(f'npx --offline {command}', 'certificate accepted\n')], npm, dict(os.environ))
+    blocks = blocks_of(page, 'js')
+    assert len(blocks) > 2
+    begin = """import { readFileSync } from 'node:fs';
+const [picture, certificate] = ['ppm', 'cert'].map((name) => readFileSync(`picture.${name}`));
+"""
+    (npm / 'blocks.mjs').write_text(begin + ''.join(block for block, _ in blocks))
+    run = ended(['node', 'blocks.mjs'], cwd=npm)
+    assert (run.status, run.wrote, run.said) == (0, b'', b'')
+
+
+@pytest.mark.all
+@pytest.mark.compiler
+@pytest.mark.since('0.8.0')
+def test_commands_of_the_readme_for_linux(made, tmp_path):
+    """In the archive, with a home of their own."""
+    needs('cc', 'pkg-config', 'man')
+    passes(['tar', 'xzf', next(made.glob('*-linux-x86_64.tar.gz')), '-C', tmp_path])
+    [unpacked] = tmp_path.iterdir()
+    blocks = blocks_of(ROOT / 'packages' / 'linux' / 'README.md', '')
+    assert len(blocks) == 2
+    env = {**os.environ, 'HOME': str(tmp_path / 'home'), 'MANPAGER': 'cat'}
+    run_blocks(blocks, unpacked, env)

@@ -247,13 +247,6 @@ STATED = [
         1,
         [(BOUNDS, r'window_splits: \d+,\n    conflicts:')],
     ),
-    (
-        'docs/RECIPES.md',
-        'Each puzzle has N seconds of processor time',
-        1,
-        [(OPTIONS, 'seconds: int =')],
-    ),
-    ('docs/RECIPES.md', '(`--seconds`), and each process N MiB', 1, [(OPTIONS, 'memory: int =')]),
     ('docs/AUDIT.md', 'the processor time for each puzzle (N)', 1, [(OPTIONS, 'seconds: int =')]),
     ('docs/AUDIT.md', 'bounds each process (N MiB)', 1, [(OPTIONS, 'memory: int =')]),
     ('packages/npm/README.md', 'an `ArrayBuffer` of at most N bytes', 1, [INPUT]),
@@ -293,15 +286,15 @@ STATED = [
         [('python/src/nonobench/_calls.py', 'MOST_SAMPLE =')],
     ),
     (
-        'docs/RECIPES.md',
+        'docs/AUDIT.md',
         '`NONOBENCH_SECONDS` | N seconds of processor',
         1,
         [(SERVICE, '"SECONDS":')],
     ),
-    ('docs/RECIPES.md', '`NONOBENCH_MEMORY` | N MiB for a process', 1, [(SERVICE, '"MEMORY":')]),
-    ('docs/RECIPES.md', '`NONOBENCH_WAIT` | N seconds', 1, [(SERVICE, '"WAIT":')]),
+    ('docs/AUDIT.md', '`NONOBENCH_MEMORY` | N MiB for a process', 1, [(SERVICE, '"MEMORY":')]),
+    ('docs/AUDIT.md', '`NONOBENCH_WAIT` | N seconds', 1, [(SERVICE, '"WAIT":')]),
     (
-        'docs/RECIPES.md',
+        'docs/AUDIT.md',
         '`NONOBENCH_MAX_CONTENT_LENGTH` | N MiB',
         MIB,
         [(SERVICE, '"MAX_CONTENT_LENGTH":')],
@@ -378,7 +371,7 @@ def test_oldest_versions():
 
 
 def test_sentences_of_the_comparison():
-    """What docs/COMPARISON.md says outside of its tables, which others_plot.py compares."""
+    """What docs/COMPARISON.md says outside of its tables, which others_tables.py compares."""
     with (ROOT / 'docs' / 'comparison.csv').open(newline='') as file:
         rows = list(csv.DictReader(file))
     tuned = {row['picture']: row['tuned'] == 'yes' for row in rows}
@@ -388,59 +381,38 @@ def test_sentences_of_the_comparison():
         if row['answer'] != 'open'
     }
     sizes = {(row['program'], row['picture']): int(row['bytes']) for row in rows if row['bytes']}
-    icon, hard = sorted(tuned, key=lambda picture: seconds.get(('nonobench', picture), 0))[:-3:-1]
+    first, second = sorted(tuned, key=lambda name: seconds.get(('nonobench', name), 0))[:-3:-1]
     ratios = [
         size / sizes['nonobench prove', picture]
         for (program, picture), size in sizes.items()
         if program == 'cadical, DRAT'
     ]
-    took = {
-        program: f'{seconds[program, icon]:.2f}'
-        for program in ('nonobench', 'minisat', 'cadical', 'gringo, clasp')
-    }
-    solvers = ('nonobench', 'minisat', 'cadical', 'gringo, clasp', 'gecode')
     unique = sum(row['answer'] == 'unique' for row in rows if row['program'] == 'nonobench')
     decided = {
-        program: {picture for solver, picture in seconds if solver == program}
-        for program in solvers
+        program: {name for solver, name in seconds if solver == program and not tuned[name]}
+        for program in ('nonobench', 'minisat', 'cadical', 'gringo, clasp', 'gecode')
     }
-    [left] = set(tuned) - set().union(*decided.values())
+    plain = {name for name in tuned if not tuned[name]}
+    [left] = plain - set().union(*decided.values())
     [board] = {
         (row['height'], row['width'], row['colours']) for row in rows if row['picture'] == left
     }
-    plain = [
-        seconds.get(('nonobench', picture), 10)
-        for picture, is_tuned in tuned.items()
-        if not is_tuned
-    ]
-    sides = sorted(
-        int(row['width'])
-        for row in rows
-        if row['picture'].startswith('hard-') and row['program'] == 'nonobench'
-    )
-    assert decided['nonobench'] == set(tuned) - {left}
-    others = {
-        program: sum(not tuned[picture] for picture in pictures)
-        for program, pictures in decided.items()
-    }
-    assert others['nonobench'] == others['gecode']
+    total = sum(seconds.get(('nonobench', name), 10) for name in plain)
+    minisat = {f'{seconds["minisat", name]:.2f}' for name in (first, second)}
+    assert tuned[first] and tuned[second] and len(minisat) == 1
+    assert decided['nonobench'] == decided['gecode'] == plain - {left}
     sentences = [
         f'One picture, a chequerboard of {board[0]} by {board[1]} cells in {board[2]} colours',
-        f'10 of its {sum(plain):.1f} seconds are those of the open picture',
-        f'three hard pictures of {sides[0]} to {sides[2]} cells a side',
-        f'for each of the {unique} pictures that nonobench found unique',
-        f'for the {unique} pictures that are unique',
-        f'We ran each program on {len(tuned)} pictures',
-        f'{sum(tuned.values())} of the {len(tuned)} pictures were chosen because',
-        f'the table of the other {len(tuned) - sum(tuned.values())}',
+        f'10 of nonobench\'s {total:.1f} seconds are its time',
+        f'for the {unique} of the {len(tuned)} pictures that are unique',
+        f'We measured {len(tuned)} pictures. The other {len(tuned) - len(plain)} were chosen',
+        f'for each of {len(plain)} pictures',
         (
-            f'{took["nonobench"]} and {seconds["nonobench", hard]:.2f} seconds, minisat takes'
-            f' {took["minisat"]} seconds each'
+            f'it takes {minisat.pop()} seconds each, and nonobench'
+            f' {seconds["nonobench", first]:.2f} and {seconds["nonobench", second]:.2f}'
         ),
-        f'with {took["cadical"]} and {took["gringo, clasp"]}.',
         f'more than {int(median(ratios) // 10) * 10} times as long',
         f'and {["no", "one", "two", "three"][sum(ratio < 1 for ratio in ratios)]} are shorter',
     ]
     text = ' '.join((ROOT / 'docs' / 'COMPARISON.md').read_text().split())
-    assert f'{seconds["minisat", hard]:.2f}' == took['minisat']
     assert [sentence for sentence in sentences if sentence not in text] == []

@@ -10,6 +10,7 @@ from tried import BUILT, ROOT, ended, needs, version_of_tree
 # Each place of the version of the tree, and the line there that has it.
 PLACES = {
     'docs/nonobench.1': r'^This page is of version (.*)\.$',
+    'docs/nonobench-audit.1': r'^This page is of version (.*)\.$',
     'c/nonobench.h': r'^#define NONOBENCH_VERSION "(.*)"$',
     'c/nonocheck.h': r'^#define NONOCHECK_VERSION "(.*)"$',
     'crates/check_host/src/calls.rt': r'^const VERSION: &str = "(.*)";$',

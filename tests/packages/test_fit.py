@@ -110,8 +110,8 @@ def said_by(ask, case):
 
     try:
         said = ask(case.picture, case.certificate, case.triple, case.givens)
-    except nonobench.Fault as fault:
-        return f'{REFUSED}{fault}\n', None
+    except nonobench.NonobenchError as error:
+        return f'{REFUSED}{error}\n', None
     return said.text, said
 
 
@@ -141,7 +141,7 @@ def test_python(library, host):
 
 
 def test_any_given(library):
-    """A certificate's givens are those that are published, whichever they are; and a fault of the
+    """A certificate's givens are those that are published, whichever they are; and an error of the
     certificate is told as its own."""
     import nonobench
 
@@ -151,13 +151,13 @@ def test_any_given(library):
                 case.picture, case.certificate, case.triple, nonobench.ANY_GIVEN
             )
             assert said.givens == len(said.named) == case.certificate.count(b'given '), case.name
-    with pytest.raises(nonobench.CertificateFault, match='^certificate Place at line 2$'):
+    with pytest.raises(nonobench.CertificateError, match='^certificate Place at line 2$'):
         nonobench.assess(
             TABLE[0].picture, b'nonocert 2\ngiven 9 9\ndone\n', published=nonobench.ANY_GIVEN
         )
-    with pytest.raises(nonobench.GivensFault, match='^givens Place at line 1$'):
+    with pytest.raises(nonobench.GivensError, match='^givens Place at line 1$'):
         nonobench.assess(TABLE[0].picture, published=[(9, 9)])
-    with pytest.raises(nonobench.UnpublishedGiven) as caught:
+    with pytest.raises(nonobench.UnpublishedGivenError) as caught:
         nonobench.assess(
             *next((case.picture, case.certificate) for case in TABLE if 'unpublished' in case.name)
         )
@@ -192,7 +192,7 @@ def test_a_puzzle_of_two_colours(library):
     import nonobench
 
     text = b'width 2\nheight 1\nrows\n1\ncolumns\n1\n0\n'
-    with pytest.raises(nonobench.Fault, match='^non NoGoal$'):
+    with pytest.raises(nonobench.NonobenchError, match='^non NoGoal$'):
         nonobench.assess(text, non=True)
     # The row settles nothing, and each column its cell.
     said = nonobench.assess(text + b'goal "10"\n', non=True)

@@ -35,6 +35,7 @@ def archive(tmp_path):
     for name in (
         'man/man1/nonobench.1',
         'bash-completion/completions/nonobench',
+        'fish/vendor_completions.d/nonobench.fish',
         'zsh/site-functions/_nonobench',
         'doc/nonobench/README.md',
     ):
@@ -79,6 +80,7 @@ def run(words, home, path='/usr/bin:/bin', cwd='/', **others):
 LINKS = [
     'bin/nonobench',
     'share/bash-completion/completions/nonobench',
+    'share/fish/vendor_completions.d/nonobench.fish',
     'share/man/man1/nonobench.1',
     'share/zsh/site-functions/_nonobench',
 ]
@@ -156,6 +158,7 @@ def checkout(archive, tmp_path):
         'packages/linux/install',
         'docs/nonobench.1',
         'completions/nonobench.bash',
+        'completions/nonobench.fish',
         'completions/_nonobench',
     ):
         (folder / name).parent.mkdir(parents=True, exist_ok=True)

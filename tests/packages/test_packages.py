@@ -98,8 +98,9 @@ def blocks_of(page):
 
 
 def try_scripts(place):
-    """Tries the audit on an example that was installed, and compares the recipes with those of this
-    tree."""
+    """Tries the audit on an example that was installed, looks for its man page, and compares the
+    recipes with those of this tree."""
+    assert list((place / 'share' / 'man' / 'man1').glob('nonobench-audit.1*'))
     shown = place / 'share' / 'doc' / 'nonobench'
     run = clean([place / 'bin' / 'nonobench-audit', shown / 'examples' / 'heart.ppm'])
     assert run.status == 0, run
@@ -346,6 +347,7 @@ def test_deb(made, pairs, version, tmp_path):
         passes(['apt-get', '-qq', '-s', '-o', 'Debug::NoLocking=1', 'install', package])
 
 
+@pytest.mark.since('0.8.0')
 def test_deb_scripts(made, tmp_path):
     needs('dpkg-deb')
     passes(['dpkg-deb', '-x', next(made.glob('*_amd64.deb')), tmp_path])
@@ -391,6 +393,7 @@ def test_wheel(made, environment, pairs, tmp_path):
     try_call([environment / 'bin' / 'python', 'ask.py'], pairs, cwd=tmp_path)
 
 
+@pytest.mark.since('0.8.0')
 def test_wheel_scripts(environment):
     try_scripts(environment)
 

@@ -162,7 +162,7 @@ export async function turning({trial, page}) {
  * changed; a name of its own stays.
  */
 export async function coloursAndNames({trial, page}) {
-  await trial.open(ppmOf(['ab'], {a: '110 70 40', b: '240 190 60'}));
+  await trial.open(ppmOf(['ab'], {a: '139 69 19', b: '240 190 60'}));
   await page.run(
       () => bench.become(
                      (doc) => ({...doc, inks: [{}, {name: 'brown'}, {name: 'sail'}]})

@@ -132,6 +132,33 @@ export async function coloursAt(page, points) {
   }, data, points);
 }
 
+/** Waits until the dialog for pictures tells a text of what is made. */
+export const facts = (page, text, ms = 10000) => page.until(
+    (wanted) => document.querySelector('#import-facts')?.textContent.includes(wanted),
+    ms * SLACK,
+    text
+);
+
+/**
+ * Opens the dialog on an image of rectangles `[colour, left, top, width, height]`, each over those
+ * before it.
+ */
+export async function openDrawn(
+    page, width, height, parts, {name = 'drawn.png', type = 'image/png'} = {}
+) {
+  await page.run(async (wide, high, all, file, kind) => {
+    const canvas = Object.assign(document.createElement('canvas'), {width: wide, height: high});
+    const pen = canvas.getContext('2d');
+    for (const [colour, ...box] of all) {
+      pen.fillStyle = colour;
+      pen.fillRect(...box);
+    }
+    const blob = await new Promise((go) => canvas.toBlob(go, kind));
+    takeFile(new File([blob], file, {type: kind}));
+  }, width, height, parts, name, type);
+  await page.until(() => document.querySelector('#import-facts')?.textContent, 10000 * SLACK);
+}
+
 /** A chequered picture on which neither verdict nor certificate came in a minute and a half. */
 export const hard = () => ppmOf(Array.from(
     {length: 60},

@@ -275,7 +275,7 @@ export async function smallPoint(hands) {
   assert.equal(await page.run(() => bench.name), 'picture');
   assert.equal(await trial.judged(), 'unique');
   assert.deepEqual(await verdict(), [
-    '○ Blank',
+    'Blank',
     'Nothing is painted yet. These clues have one solution, the blank picture.',
     'Blank.'
   ]);

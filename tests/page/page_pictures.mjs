@@ -4,18 +4,13 @@
 import assert from 'node:assert/strict';
 import {readdirSync, writeFileSync} from 'node:fs';
 import {join} from 'node:path';
-import {NO_PICKERS, clean, downloaded, drop, fresh, isOpen, said} from './page_hands.mjs';
+import {NO_PICKERS, clean, downloaded, drop, facts, fresh, isOpen, openDrawn, said} from './page_hands.mjs';
 import {SIZES, SLACK, ppmOf} from './page_trial.mjs';
 import '../../page/test/limits.mjs';
 import {writeZip} from '../../page/formats/zip.js';
 
 const palette = (page) => page.run(
     () => [...document.querySelectorAll('#import-palette button')].map((one) => one.title)
-);
-const facts = (page, text, ms = 10000) => page.until(
-    (wanted) => document.querySelector('#import-facts')?.textContent.includes(wanted),
-    ms * SLACK,
-    text
 );
 const judged = (page) => page.until(
     () => /^(Unique|Ambiguous|Not decided)/.test(document.querySelector('#import-verdict'
@@ -27,26 +22,6 @@ const set = (page, id, value) => page.run((one, text) => {
   field.value = text;
   field.dispatchEvent(new Event('input', {bubbles: true}));
 }, id, value);
-
-/**
- * Opens the dialog on an image of rectangles `[colour, left, top, width, height]`, each over those
- * before it.
- */
-async function openDrawn(
-    page, width, height, parts, {name = 'drawn.png', type = 'image/png'} = {}
-) {
-  await page.run(async (wide, high, all, file, kind) => {
-    const canvas = Object.assign(document.createElement('canvas'), {width: wide, height: high});
-    const pen = canvas.getContext('2d');
-    for (const [colour, ...box] of all) {
-      pen.fillStyle = colour;
-      pen.fillRect(...box);
-    }
-    const blob = await new Promise((go) => canvas.toBlob(go, kind));
-    takeFile(new File([blob], file, {type: kind}));
-  }, width, height, parts, name, type);
-  await page.until(() => document.querySelector('#import-facts')?.textContent, 10000 * SLACK);
-}
 
 // Two greys and two reds that look alike; 401 pixels, so that it is no pixel art.
 const SHADES = [

@@ -16,6 +16,7 @@ import {smallPoint, typingPoint} from './page_marks.mjs';
 import {limitsPoint, placesPoint} from './page_repairs.mjs';
 import {linkPoint, offlinePoint, playerPoint, severalPoint} from './page_sharing.mjs';
 import {SIZES, SLACK, noise, ppmOf} from './page_trial.mjs';
+import {segmentsPoint} from './page_two.mjs';
 import {pause} from './page_browser.mjs';
 
 const PAIR = ['a.....', '.a....', '......', '...aaa', '...aaa', '...aaa'];
@@ -377,6 +378,7 @@ const POINTS = {
   'what others get': othersPoint,
   'print for books': printPoint,
   links: linkPoint,
+  'two colours': segmentsPoint,
   'the player': playerPoint,
   'several files': severalPoint,
   offline: offlinePoint,

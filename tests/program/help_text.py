@@ -1,6 +1,9 @@
-"""Reads the help of the program: its commands, and the words, arguments and options of each."""
+"""Reads the help of the program: its commands, and the words, arguments and options of each; and
+that of nonobench-audit."""
 
+import os
 import re
+import sys
 
 from tried import ended
 
@@ -59,3 +62,23 @@ def formats_of(program, command):
     return set(
         re.search(r'--format.*possible values: ([^]]*)\]', help_of(program, command))[1].split(', ')
     )
+
+
+def audit_help():
+    """The help of nonobench-audit, in long lines."""
+    words = [sys.executable, '-m', 'nonobench.audit', '--help']
+    run = ended(words, env={**os.environ, 'COLUMNS': '200'})
+    assert (run.status, run.said) == (0, b'')
+    return run.wrote.decode()
+
+
+def audit_options():
+    """The options of nonobench-audit with their values' names, or None."""
+    lines = audit_help().splitlines()
+    found = (re.match(r'  (?:-\w, )?(--[a-z-]+)(?: ([A-Z]+))?  ', line) for line in lines)
+    return {option[1]: option[2] for option in found if option}
+
+
+def audit_flaws():
+    """The kinds of flaws that `--allow-flaw` takes."""
+    return set(re.search(r'--allow-flaw .*: (.*);', audit_help())[1].split(', '))

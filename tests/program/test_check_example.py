@@ -109,7 +109,7 @@ def test_damaged(library, count):
         try:
             nonobench.check(picture.encode(), text)
             wanted = True
-        except nonobench.Fault:
+        except nonobench.NonobenchError:
             wanted = False
         assert is_accepted(picture, text) == wanted, (picture, text)
         answers.add(wanted)

@@ -1,7 +1,9 @@
-"""The man page beside the program's help, docs/SESSION.md and the code.
+"""The man pages beside the help of their commands, docs/SESSION.md and the code.
 
-- Each command, argument and option of `--help`, and of `--help` after each command, is in the
-  synopsis in the same place, and nothing else is; each option of the synopsis has its description.
+- nonobench-audit: each option of `--help` is in the synopsis, in which nothing else is, and is
+  described with the same value. The kinds of flaws and the statuses are those of `--help`.
+- nonobench: each command, argument and option of `--help`, and of `--help` after each command, is
+  in the synopsis in the same place, and nothing else is; each of these options is described.
 - The commands of a session, each with its arguments, are those of the list in docs/SESSION.md.
 - The names of refusals are those that sessions print.
 - Each line that can come on standard error is in both pages.
@@ -9,16 +11,20 @@
 
 import re
 
-from help_text import words_of
-from tried import ROOT, needs, passes
+import pytest
+from help_text import audit_flaws, audit_help, audit_options, words_of
+from tried import ROOT, ended, needs
 
 PAGE = ROOT / 'docs' / 'nonobench.1'
+AUDIT = ROOT / 'docs' / 'nonobench-audit.1'
+# What mandoc says of a page that is not installed.
+NOT_INSTALLED = 'referenced manual not found: Xr nonobench'
 
 
-def section(name, ending=r'^\.Sh'):
-    """The lines of a section of the man page."""
+def section(name, ending=r'^\.Sh', page=PAGE):
+    """The lines of a section of a man page."""
     within = []
-    for part in re.split(rf'(?m)(?={ending})', PAGE.read_text()):
+    for part in re.split(rf'(?m)(?={ending})', page.read_text()):
         if re.match(rf'{ending} {name}', part):
             within += part.splitlines()[1:]
     assert within, name
@@ -113,6 +119,33 @@ def test_lines_on_standard_error():
     assert told == known
 
 
-def test_lint():
+def test_audit(library):
+    known = audit_options()
+    assert len(known) > 10
+    lines = section('SYNOPSIS', page=AUDIT)
+    named = re.findall(
+        r'^\.(?:Op )?Fl (-[a-z-]+)(?: Ar ([A-Z]+))?$', '\n'.join(lines), re.MULTILINE
+    )
+    assert {f'-{option}': value or None for option, value in named} == known
+    described = re.findall(
+        r'^\.It (?:Fl . , )?Fl (-[a-z-]+)(?: Ar ([A-Z]+))?$', AUDIT.read_text(), re.MULTILINE
+    )
+    assert {f'-{option}': value or None for option, value in described} == known
+    assert len(named) == len(described) == len(known)
+
+
+def test_values_of_the_audit(library):
+    [flaws] = re.findall(r'(?ms)^\.It Fl -allow-flaw .*?(?=^\.El)', AUDIT.read_text())
+    assert set(re.findall(r'^\.Cm (\w+)', flaws, re.MULTILINE)) == audit_flaws()
+    statuses = re.findall(r'^\.It (.*)$', '\n'.join(section('EXIT', page=AUDIT)), re.MULTILINE)
+    known = audit_help().split('status:\n')[1]
+    assert ' '.join(statuses).replace(' , ', ', ') == ' '.join(
+        re.findall(r'^  ([\d, ]*\d)  ', known, re.MULTILINE)
+    )
+
+
+@pytest.mark.parametrize('page', [PAGE, AUDIT], ids=lambda page: page.stem)
+def test_lint(page):
     needs('mandoc')
-    passes(['mandoc', '-T', 'lint', PAGE])
+    said = ended(['mandoc', '-T', 'lint', page]).wrote.decode().splitlines()
+    assert [line for line in said if NOT_INSTALLED not in line] == []

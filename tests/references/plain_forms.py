@@ -23,9 +23,9 @@ FORMS = ('nonocert 1', 'nonocert 2', 'nonolemma 1', 'nonolemma 2')
 
 
 class Fault(Exception):
-    """The name of an error, and its line or byte."""
+    """The name of an error, and its line or byte if it has one."""
 
-    def __init__(self, name, place):
+    def __init__(self, name, place=None):
         super().__init__(name, place)
         self.name, self.place = name, place
 

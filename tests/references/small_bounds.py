@@ -5,8 +5,7 @@ answers: tests/references/small_bounds.py PROGRAM ..
 The programs are builds of the crate `search_tables`, which are asked by its call `within`. All
 pictures of three by three and of two by four cells in two colours, and a sample of those in three,
 are judged and certified, with and without givens, within several bounds. Brute force over all
-pictures says what each answer must be; the plain checker of tests/references/reference must accept
-each certificate.
+pictures says what each answer must be; the checker of plain_forms.py must accept each certificate.
 """
 import functools
 import itertools
@@ -19,8 +18,7 @@ from pathlib import Path
 sys.dont_write_bytecode = True
 ROOT = Path(__file__).resolve().parent.parent.parent
 sys.path.insert(0, str(ROOT / 'tests/references'))
-from reference.certificates import check_cert, read_cert  # noqa: E402
-from reference.faults import Fault  # noqa: E402
+import plain_forms  # noqa: E402
 from reference.sessions import Disagreement, agree  # noqa: E402
 from small_pictures import PATIENCE, Listing  # noqa: E402
 
@@ -79,12 +77,13 @@ def cases():
 @functools.lru_cache(maxsize=None)
 def accept(rows, givens, text):
     """A certificate must have exactly the givens, and be accepted."""
-    cert = read_cert(text.replace('|', '\n').encode())
-    agree(cert[0] == (2 if givens else 1), f'the version is {cert[0]}')
-    agree(cert[1] == [(row + 1, col + 1) for row, col in givens], f'the givens are {cert[1]}')
+    cert = text.replace('|', '\n').encode()
+    form, named, _, _ = plain_forms.read_certificate(cert)
+    agree(form == f'nonocert {2 if givens else 1}', f'the form is {form}')
+    agree(named == [(row + 1, col + 1) for row, col in givens], f'the givens are {named}')
     try:
-        check_cert([list(row) for row in rows], cert)
-    except Fault as fault:
+        plain_forms.check(plain_forms.Puzzle(rows), cert)
+    except plain_forms.Fault as fault:
         raise Disagreement(f'the certificate is refused: {fault}') from fault
 
 
@@ -154,7 +153,7 @@ def compare_all(program):
     for (bounds, case), told, cert in zip(asked, answers[::2], answers[1::2]):
         try:
             done = compare(bounds, case, told, cert)
-        except (Disagreement, Fault) as wrong:
+        except (Disagreement, plain_forms.Fault) as wrong:
             raise Disagreement(f'{text_of(*case[:2])} within {bounds}: {wrong}') from wrong
         if done is not None:
             work.add(bounds, not case[2], done)

@@ -19,8 +19,8 @@ from pathlib import Path
 sys.dont_write_bytecode = True
 ROOT = Path(__file__).resolve().parent.parent.parent
 sys.path.insert(0, str(ROOT / 'tests/references'))
-from reference.certificates import check_cert, read_cert  # noqa: E402
-from reference.faults import Fault  # noqa: E402
+import plain_forms  # noqa: E402
+from plain_forms import Fault  # noqa: E402
 from reference.lines import clues_of, map_rows, settled  # noqa: E402
 from reference.runs import Run, work_run  # noqa: E402
 from reference.sessions import Disagreement, Output, agree, clue_lines, picture_rows  # noqa: E402
@@ -143,12 +143,12 @@ class Talk:
                 output.must_lines('ambiguous')
                 return
             cert = certificate_of(output)
-            _, named, _ = read_cert(cert)
+            _, named, _, _ = plain_forms.read_certificate(cert)
             agree(
                 named == [(row + 1, col + 1) for row, col in givens],
                 f'the givens of {rows} with {givens} are {named}',
             )
-            check_cert(ordered(rows), read_cert(cert))
+            plain_forms.check(plain_forms.Puzzle(ordered(rows)), cert)
 
         self.ask('certify', judge)
 

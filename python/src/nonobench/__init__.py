@@ -1,12 +1,12 @@
 """Checks certificates of nonograms, and judges pictures.
 
-    result = nonobench.check(picture, certificate, published=[(1, 1)])   # raises a Fault if a file
-    is refused clues = nonobench.clues(picture) verdict = nonobench.verdict(picture, allowance=1000)
-    certificate = nonobench.certify(picture)                             # None if the puzzle has
-    several solutions audit = nonobench.audit(picture, allowance=1000)                     # both,
-    of one opened picture assessment = nonobench.assess(picture, allowance=1000)               #
-    whether it is fit to be published: grade and flaws certificate =
-    nonobench.prove(picture).certificate                   # with lemmas: where others are too long
+    result = nonobench.check(picture, certificate, published=[(1, 1)])  # raises a NonobenchError
+    clues = nonobench.clues(picture)
+    verdict = nonobench.verdict(picture, allowance=1000)
+    certificate = nonobench.certify(picture)  # None if the puzzle has several solutions
+    audit = nonobench.audit(picture, allowance=1000)  # both, of one opened picture
+    assessment = nonobench.assess(picture, allowance=1000)  # is it fit to be published?
+    certificate = nonobench.prove(picture).certificate  # with lemmas: where others are too long
 
 A picture is the bytes of a plain PPM text (P3), of at most 120 by 120 cells in 16 colours with the
 background. The calls are those of libnonobench, which is proved (docs/THEOREMS.md); this package
@@ -15,9 +15,12 @@ own, so several threads may call at once. After a program with threads has forke
 not call the library; use `Worker` there, which starts a new program. An answer may take long:
 `Worker` limits the time.
 
-`picture_of_image` reads other images, a cell for each pixel, as a browser shows them:
+`picture_of_image` reads other images, a cell for each pixel, as a browser shows them, and
+`puzzles_of` files of every kind that nonobench-audit reads:
 
-    picture = nonobench.picture_of_image(data)                           # raises ImageFault
+    picture = nonobench.picture_of_image(data)  # raises ImageError
+    for puzzle in nonobench.puzzles_of(data):  # with picture, background, givens and title
+        nonobench.assess(puzzle.picture, None, puzzle.background, puzzle.givens)
 """
 
 from . import _loading  # noqa: F401, before all else
@@ -25,20 +28,22 @@ from ._answers import (
     Assessment,
     Audit,
     Block,
-    CertificateFault,
+    CertificateError,
     Clues,
-    Fault,
     Flaw,
     Given,
-    GivensFault,
+    GivensError,
     Grade,
-    ImageFault,
-    LengthFault,
-    PictureFault,
+    ImageError,
+    LengthError,
+    NonobenchError,
+    PictureError,
     Proved,
+    Puzzle,
     Result,
     Ruling,
-    UnpublishedGiven,
+    UnpublishedGivenError,
+    UnreadableError,
     Verdict,
 )
 from ._calls import (
@@ -50,6 +55,7 @@ from ._calls import (
     clues,
     picture_of,
     prove,
+    puzzles_of,
     verdict,
 )
 from ._hints import hint_of
@@ -69,20 +75,22 @@ __all__ = [
     "Assessment",
     "Audit",
     "Block",
-    "CertificateFault",
+    "CertificateError",
     "Clues",
-    "Fault",
     "Flaw",
     "Given",
-    "GivensFault",
+    "GivensError",
     "Grade",
-    "ImageFault",
-    "LengthFault",
-    "PictureFault",
+    "ImageError",
+    "LengthError",
+    "NonobenchError",
+    "PictureError",
     "Proved",
+    "Puzzle",
     "Result",
     "Ruling",
-    "UnpublishedGiven",
+    "UnpublishedGivenError",
+    "UnreadableError",
     "Verdict",
     "Worker",
     "assess",
@@ -95,6 +103,7 @@ __all__ = [
     "picture_of",
     "picture_of_image",
     "prove",
+    "puzzles_of",
     "verdict",
     "version",
 ]

@@ -12,78 +12,82 @@ from typing import Iterable, NamedTuple, Optional
 MOST_GIVENS = 120 * 120  # a picture has no more cells
 
 
-class Fault(Exception):
+class NonobenchError(ValueError):
     """A file is refused. `name` is the error's name in docs/FILE-FORMATS.md, and `text` what the
-    program says after `nonobench: `."""
+    program says after `nonobench: `. Where it has a place, that is a `byte`, counted from 0, or a
+    `line`, counted from 1.
+    """
 
-    def __init__(self, name: str, place: int, text: str) -> None:
-        super().__init__(name, place, text)
+    def __init__(
+        self, name: str, text: str, byte: Optional[int] = None, line: Optional[int] = None
+    ) -> None:
+        super().__init__(name, text, byte, line)
         self.name = name
         self.text = text
-        self._place = place
+        self.byte = byte
+        self.line = line
 
     def __str__(self) -> str:
         return self.text
 
 
-class PictureFault(Fault):
-    """The picture is refused, at a byte that is counted from 0."""
-
-    @property
-    def byte(self) -> int:
-        """Where the fault is."""
-        return self._place
+class PictureError(NonobenchError):
+    """The picture is refused, at a byte; or a .non text, without a place."""
 
 
-class _LineFault(Fault):
-    @property
-    def line(self) -> int:
-        """Where the fault is."""
-        return self._place
+class CertificateError(NonobenchError):
+    """The certificate is refused, at a line."""
 
 
-class CertificateFault(_LineFault):
-    """The certificate is refused, at a line that is counted from 1."""
+class GivensError(NonobenchError):
+    """The cells that are published are refused, at one of them, which counts as a line."""
 
 
-class GivensFault(_LineFault):
-    """The cells that are published are refused, at one of them that is counted from 1."""
-
-
-class UnpublishedGiven(CertificateFault):
-    """The certificate names a given that is not published, at a line that is counted from 1. It
-    proves the puzzle with that given. `givens` has all givens that it names.
+class UnpublishedGivenError(CertificateError):
+    """The certificate names a given that is not published, at a line. It proves the puzzle with
+    that given. `givens` has all givens that it names.
     """
 
     def __init__(self, line: int, givens: tuple[Given, ...]) -> None:
-        super().__init__("UnpublishedGiven", line, f"certificate UnpublishedGiven at line {line}")
+        text = f"certificate UnpublishedGiven at line {line}"
+        super().__init__("UnpublishedGiven", text, line=line)
         self.args = (line, givens)
         self.givens = givens
 
 
-class ImageFault(Fault):
+class ImageError(NonobenchError):
     """An image is refused. `name` is the reason, as docs/AUDIT.md has it."""
 
-    def __init__(self, name: str, text: str) -> None:
-        super().__init__(name, 0, text)
-        self.args = (name, text)
 
-
-class LengthFault(Fault):
+class LengthError(NonobenchError):
     """A picture, a certificate or a file of givens has more than 16,777,216 bytes."""
 
 
-_KINDS = {"ppm": PictureFault, "givens": GivensFault, "certificate": CertificateFault}
+class UnreadableError(NonobenchError):
+    """No puzzle is read from a file. The text says why in one line."""
+
+    def __init__(self, text: str) -> None:
+        super().__init__("unreadable", text)
+        self.args = (text,)
 
 
-def fault_of(text: str, certificate: bytes = b"") -> Fault:
-    """The fault that a text tells, of a certificate where one was asked about."""
-    found = re.fullmatch(r"(ppm|givens|certificate) (\w+) at (?:byte|line) (\d+)", text)
-    if found and found[2] == "UnpublishedGiven":
-        return UnpublishedGiven(int(found[3]), givens_of(certificate))
-    return (
-        Fault(text, 0, text) if found is None else _KINDS[found[1]](found[2], int(found[3]), text)
-    )
+_KINDS = {
+    "ppm": PictureError,
+    "non": PictureError,
+    "givens": GivensError,
+    "certificate": CertificateError,
+}
+
+
+def error_of(text: str, certificate: bytes = b"") -> NonobenchError:
+    """The error that a text tells, of a certificate where one was asked about."""
+    found = re.fullmatch(r"(\w+) (\w+)(?: at byte (\d+)| at line (\d+))?", text)
+    if found is None or found[1] not in _KINDS:
+        return NonobenchError(text, text)
+    byte, line = (None if place is None else int(place) for place in found.group(3, 4))
+    if found[2] == "UnpublishedGiven" and line is not None:
+        return UnpublishedGivenError(line, givens_of(certificate))
+    return _KINDS[found[1]](found[2], text, byte, line)
 
 
 class Given(NamedTuple):
@@ -231,6 +235,16 @@ def refused_flaws(flaws: Iterable[str], kinds: Iterable[str]) -> list[str]:
     """The flaws, by their words, that somebody refuses who allows some kinds."""
     allowed = {*kinds}
     return [] if "any" in allowed else [flaw for flaw in flaws if flaw.split(" ")[0] not in allowed]
+
+
+class Puzzle(NamedTuple):
+    """A puzzle of a file, as the calls take it: a P3 text, its background (None is white), and the
+    cells that are given. XML may have a title."""
+
+    picture: bytes
+    background: Optional[tuple[int, int, int]] = None
+    givens: tuple[Given, ...] = ()
+    title: str = ""
 
 
 @dataclass(frozen=True)

@@ -4,28 +4,30 @@ from __future__ import annotations
 
 import contextlib
 import operator
+import re
 from typing import Iterable, Optional, SupportsIndex, Union
 
 from ._answers import (
     Assessment,
     Audit,
     Clues,
-    Fault,
-    GivensFault,
-    LengthFault,
+    GivensError,
+    LengthError,
+    NonobenchError,
     Proved,
+    Puzzle,
     Result,
     Verdict,
     assessment_of,
     clues_of,
-    fault_of,
+    error_of,
     givens_of,
     proved_of,
     result_of,
     verdict_of,
 )
 from ._library import DONE, MEMORY
-from ._serve import ASSESS, CHECK, PROVE, PUBLISHED, SESSION, answer
+from ._serve import ASSESS, CHECK, PROVE, PUBLISHED, SESSION, SESSION_OF_NON, answer
 
 Bytes = Union[bytes, bytearray, memoryview]
 Colour = tuple[int, int, int]
@@ -35,6 +37,11 @@ MOST_BYTES = 16_777_216
 MOST_ALLOWANCE = 99_999
 MOST_CELLS = 120  # of a side
 MOST_SAMPLE = 65535
+
+# What a line of a .non text begins with, in the front of the file, and how a picture does.
+_WORD = re.compile(rb"^[ \t]*(?:width|height|rows|columns|goal|catalogue|title)\b", re.MULTILINE)
+_FRONT = 65536
+_PICTURE = re.compile(rb"P3[\s#]")
 
 
 class AnyGiven:
@@ -50,9 +57,10 @@ Published = Union[Iterable[tuple[int, int]], Bytes, AnyGiven]
 
 
 class Questions:
-    """The questions, wherever they are answered. Each raises PictureFault, LengthFault or
+    """The questions, wherever they are answered. Each raises PictureError, LengthError or
     MemoryError if a picture is refused, and ValueError for a background that is not a triple of
-    numbers from 0 to 65,535. Without one the background is white.
+    numbers from 0 to 65,535. Without one the background is white. All but `check` and `prove` take
+    a .non text, too, which they recognise by what it has, and which has no other background.
     """
 
     def check(
@@ -63,15 +71,15 @@ class Questions:
         published: Published = (),
     ) -> Result:
         """Checks a certificate of a picture, a P3 text, in any of its forms. Raises
-        CertificateFault if it is not accepted.
+        CertificateError if it is not accepted.
 
         A puzzle has one solution with the givens that its certificate names, and these may be all
         cells. So a certificate is accepted only if each of its givens is among `published`: the
         cells whose colours you publish, as pairs of row and column counted from 1, or as the bytes
         of a file with a line `given R C` for each; by default none. Otherwise it raises
-        UnpublishedGiven, whose `givens` are those that the certificate names. A published cell that
-        is outside the picture or occurs twice raises GivensFault. `published=ANY_GIVEN` accepts all
-        givens, for a site that then publishes exactly these.
+        UnpublishedGivenError, whose `givens` are those that the certificate names. A published cell
+        that is outside the picture or occurs twice raises GivensError. `published=ANY_GIVEN`
+        accepts all givens, for a site that then publishes exactly these.
         """
         picture, certificate, givens = (
             bytes_of(picture),
@@ -99,10 +107,10 @@ class Questions:
         background: Optional[Colour] = None,
         published: Published = (),
         allowance: Union[int, str, None] = None,
-        non: bool = False,
+        non: Optional[bool] = None,
     ) -> Assessment:
         """Whether a puzzle is fit to be published: its verdict, its grade and its flaws. It is a P3
-        text, or (`non`) a .non text.
+        text, or a .non text with a goal; `non` says which, where that must not be recognised.
 
         The published cells and the certificate are as in `check`; a certificate takes the place of
         the search for another solution. The allowance is how many splits the search of a part may
@@ -111,6 +119,8 @@ class Questions:
         puzzle, by = bytes_of(puzzle), None if certificate is None else bytes_of(certificate)
         givens = _file_of(givens_of(by or b"") if isinstance(published, AnyGiven) else published)
         bound = _bound(allowance)
+        if non is None:
+            non = is_non(puzzle)
         if not isinstance(non, int):
             raise TypeError(f"non must be True or False, not {type(non).__name__}")
         if non and background is not None:
@@ -118,7 +128,7 @@ class Questions:
         rest = b"%d %d %s\n" % (non, by is not None, bound) + (by or b"")
         try:
             (text,) = self._ask(ASSESS, puzzle, background, rest, givens or b"")
-        except GivensFault:
+        except GivensError:
             if by is not None and isinstance(published, AnyGiven) and not non:
                 self.check(
                     puzzle, by, background, ANY_GIVEN
@@ -171,18 +181,45 @@ class Questions:
             return Audit(verdict_of(texts[-2]), texts[-1])
         return Audit(verdict_of(texts[-1]))
 
-    def _say(self, picture: Bytes, background: Optional[Colour], lines: bytes) -> list[bytes]:
+    def puzzles_of(self, data: Bytes, background: Optional[Colour] = None) -> list[Puzzle]:
+        """The puzzles of a file, of every kind that nonobench-audit reads (docs/AUDIT.md): P3,
+        which stays as it is, other Netpbm images, PNG, .non and XML, which may have several.
+
+        Without a background, a PNG has the one that the audit chooses, and XML its own; givens are
+        those of XML. A .non text without a goal is the first picture that is found for its clues,
+        which may take very long; `Worker` limits the time. Raises ImageError, UnreadableError or
+        PictureError if the file is refused, and ImportError if PNG needs Pillow, or XML defusedxml.
+        """
+        from .collection.reading import puzzles_of
+
+        return puzzles_of(bytes_of(data), background, self)
+
+    def picture_of_non(self, puzzle: Bytes) -> bytes:
+        """The P3 text of a .non text: of its goal, or of a picture that is found for its clues."""
+        return self._say(puzzle, None, b"write ppm\n", True)[-1]
+
+    def _say(
+        self,
+        picture: Bytes,
+        background: Optional[Colour],
+        lines: bytes,
+        non: Optional[bool] = None,
+    ) -> list[bytes]:
         """What a bench on a picture answers to each line, until one is refused or tells that there
         is no certificate.
 
         All that is asked here is lawful, so a refusal is one of memory.
         """
-        texts = self._ask(SESSION, bytes_of(picture), background, lines)
+        data = bytes_of(picture)
+        non = is_non(data) if non is None else non
+        if non and background is not None:
+            raise ValueError("background goes with a P3 text")
+        texts = self._ask(SESSION_OF_NON if non else SESSION, data, background, lines)
         if texts[-1].startswith(b"refused: "):
             if texts[-1] == b"refused: Memory\n":
                 raise MemoryError("nonobench: memory")
             last = texts[-1].decode("ascii")
-            raise Fault(last[9:-1], 0, last[:-1])
+            raise NonobenchError(last[9:-1], last[:-1])
         return texts
 
     def _ask(
@@ -199,7 +236,7 @@ class Questions:
         if status == MEMORY:
             raise MemoryError("nonobench: memory")
         if status != DONE:
-            raise fault_of(
+            raise error_of(
                 texts[-1].decode("ascii"), rest.partition(b"\n")[2] if kind == ASSESS else rest
             )
         return texts
@@ -218,7 +255,7 @@ assess, check, clues, verdict, certify, audit = (
     _here.certify,
     _here.audit,
 )
-prove = _here.prove
+prove, puzzles_of = _here.prove, _here.puzzles_of
 
 
 def picture_of(columns: int, rows: int, triples: Iterable[Colour], maxval: int = 255) -> bytes:
@@ -258,8 +295,14 @@ def bytes_of(file: Bytes) -> bytes:
         raise TypeError(f"expected bytes, not {type(file).__name__}")
     data = bytes(memoryview(file))  # a subclass may have another length
     if len(data) > MOST_BYTES:
-        raise LengthFault("TooLong", MOST_BYTES, "input too long")
+        raise LengthError("TooLong", "input too long")
     return data
+
+
+def is_non(data: bytes) -> bool:
+    """Whether a file is a .non text: a line of it begins with a word of that format, and it does
+    not begin as a picture does."""
+    return not _PICTURE.match(data) and bool(_WORD.search(data, 0, _FRONT))
 
 
 def _file_of(published: Published) -> Optional[bytes]:
@@ -269,16 +312,15 @@ def _file_of(published: Published) -> Optional[bytes]:
     if isinstance(published, (bytes, bytearray, memoryview)):
         return bytes_of(published)
     try:
-        return bytes_of(
-            b"".join(
-                b"given %d %d\n" % (operator.index(row), operator.index(column))
-                for row, column in published
-            )
-        )
+        lines = [
+            b"given %d %d\n" % (operator.index(row), operator.index(column))
+            for row, column in published
+        ]
     except (TypeError, ValueError):
         raise TypeError(
             "published must be pairs of row and column, a file's bytes, or ANY_GIVEN"
         ) from None
+    return bytes_of(b"".join(lines))
 
 
 def _bound(allowance: Union[int, str, None]) -> bytes:

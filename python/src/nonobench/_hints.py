@@ -4,7 +4,7 @@ from __future__ import annotations
 
 from typing import Union
 
-from ._answers import Fault
+from ._answers import NonobenchError
 
 # What a certificate that begins with these two bytes is.
 _ODD_STARTS = {
@@ -14,13 +14,13 @@ _ODD_STARTS = {
 _CR_LF = "its lines end with CR LF, and must end with LF alone"
 
 
-def hint_of(fault: Fault, certificate: Union[bytes, bytearray, memoryview]) -> str:
+def hint_of(error: NonobenchError, certificate: Union[bytes, bytearray, memoryview]) -> str:
     """What an editor seems to have done to a certificate that was refused as NotCert, in a few
     words.
 
-    Empty where there is no sign of that, and for another fault.
+    Empty where there is no sign of that, and for another error.
     """
-    if fault.text != "certificate NotCert at line 1":
+    if error.text != "certificate NotCert at line 1":
         return ""
     front = bytes(certificate[:64])
     return _ODD_STARTS.get(front[:2]) or (

@@ -13,7 +13,7 @@ import struct
 import zlib
 from typing import Iterator, NamedTuple, NoReturn, Optional
 
-from ._answers import ImageFault
+from ._answers import ImageError
 from ._calls import MOST_CELLS, MOST_SAMPLE, Bytes, Colour, bytes_of, picture_of, triple_of
 from ._profiles import is_srgb
 
@@ -89,7 +89,7 @@ def picture_of_image(data: Bytes, background: Optional[Colour] = None) -> bytes:
     """The P3 text of a PNG or Netpbm image, a cell for each pixel. A P3 text stays as it is.
 
     Transparent pixels get the background, by default white; ValueError: it is no triple up to the
-    image's maxval. Raises ImageFault if the image is refused, and ImportError if Pillow is missing
+    image's maxval. Raises ImageError if the image is refused, and ImportError if Pillow is missing
     for it.
     """
     data = bytes_of(data)
@@ -121,20 +121,20 @@ def pixels_of(data: bytes) -> Pixels:
         read = _netpbm
     else:
         kind = kind_of(data)
-        raise ImageFault(
+        raise ImageError(
             "not read", f"this is {kind or 'no image'}: convert it to PNG: nonobench.html opens it"
         )
     try:
         return read(data)
-    except (ImageFault, MemoryError, ImportError):
+    except (ImageError, MemoryError, ImportError):
         raise
     except Exception:  # whatever a decoder makes of a stranger's bytes
         _refuse(DAMAGED)
 
 
 def is_image(data: bytes) -> bool:
-    """Whether a file begins as PNG or Netpbm does, but for P3."""
-    return data.startswith(PNG) or bool(NETPBM.match(data))
+    """Whether a file begins as an image does, but for P3."""
+    return data.startswith(PNG) or bool(NETPBM.match(data) or kind_of(data))
 
 
 def kind_of(data: bytes) -> str:
@@ -149,7 +149,7 @@ def prepare() -> None:
 
 
 def _refuse(reason: str) -> NoReturn:
-    raise ImageFault(reason, f"the image is refused: {reason} ({MENDED[reason]})")
+    raise ImageError(reason, f"the image is refused: {reason} ({MENDED[reason]})")
 
 
 def _need(is_right: object, reason: str = DAMAGED) -> None:
@@ -162,7 +162,7 @@ def _bounded(columns: int, rows: int) -> None:
     _need(columns > 0 and rows > 0)
     if columns > MOST_CELLS or rows > MOST_CELLS:
         most = f"{MOST_CELLS} by {MOST_CELLS}"
-        raise ImageFault("a size", f"{columns} by {rows} pixels, and a puzzle has at most {most}")
+        raise ImageError("a size", f"{columns} by {rows} pixels, and a puzzle has at most {most}")
 
 
 def _has_near(colours: set[Optional[Colour]]) -> bool:

@@ -22,9 +22,9 @@ if TYPE_CHECKING:
     from typing import BinaryIO, Callable
 
 # What is asked: whether a certificate of a picture is accepted, with any givens or with those that
-# are published; what a bench on a picture answers to lines; for a certificate with lemmas; or for
-# an assessment, which a certificate may help.
-CHECK, PUBLISHED, SESSION, PROVE, ASSESS = 1, 2, 3, 4, 5
+# are published; what a bench on a picture answers to lines; for a certificate with lemmas; for an
+# assessment, which a certificate may help; or what a bench on a .non text answers.
+CHECK, PUBLISHED, SESSION, PROVE, ASSESS, SESSION_OF_NON = 1, 2, 3, 4, 5, 6
 
 NO_MEMORY = 9  # the status of a process whose memory has ended
 STREAM = 0  # of a process that answers: questions come there, and answers go
@@ -59,15 +59,15 @@ def answer_on(
         by = certificate if is_by == b"1" else None
         status = desk.assess(picture, non == b"1", background, givens, by, b"".join(allowance))
     else:
-        return _answer_of_bench(desk, picture, background, rest)
+        return _answer_of_bench(desk, kind == SESSION_OF_NON, picture, background, rest)
     return status, [desk.text()]
 
 
 def _answer_of_bench(
-    desk: Desk, picture: bytes, background: bytes, lines: bytes
+    desk: Desk, non: bool, picture: bytes, background: bytes, lines: bytes
 ) -> tuple[int, list[bytes]]:
     """What a bench on a picture says to lines, until one is the last."""
-    status, bench = desk.open(picture, background)
+    status, bench = desk.open(picture, background, non)
     if status != DONE:
         return status, [desk.text()]
     texts: list[bytes] = []

@@ -36,11 +36,12 @@ class Worker(Questions):
             worker.check(picture, certificate)
 
     Threads may share a worker: their calls are made one after another. `seconds` bounds the time by
-    the clock, and `processor` the processor time of a call, in whole seconds. `memory` bounds the
-    process, in bytes; if that is not enough, the call raises MemoryError. The first call starts the
-    process. It ends with `close`, with the `with`, with the last reference to the worker, with this
-    program, and if an exception is raised while a call waits, for example by Ctrl-C or a task
-    queue's limit. So a late answer is never taken for the answer to a later question.
+    the clock, with the wait for a call's turn. `processor` bounds the processor time of a call, in
+    whole seconds. `memory` bounds the process, in bytes; if that is not enough, the call raises
+    MemoryError. The first call starts the process. It ends with `close`, with the `with`, with the
+    last reference to the worker, with this program, and if an exception is raised while a call
+    waits, for example by Ctrl-C or a task queue's limit. So a late answer is never taken for the
+    answer to a later question.
     """
 
     def __init__(
@@ -108,7 +109,10 @@ class Worker(Questions):
     ) -> None:
         """Appends the answers to questions (a kind and its files) as they come. Raises why one does
         not come; those behind it are not asked then."""
+        called = time.monotonic()
         with self._lock:
+            if time.monotonic() - called >= self._seconds:  # another thread's calls took them
+                raise _late(self._seconds)
             # The process is this call's alone until its answers have been read whole. Whatever is
             # raised before, it never goes back.
             process, self._process, before = self._process, None, self._asked
@@ -117,7 +121,7 @@ class Worker(Questions):
                     process = uninterrupted(lambda: _Process(self._memory, *self._program()))
                 self._asked = process
                 first, self._number = self._number + 1, self._number + len(questions)
-                asked = process.ask(first, questions, self._seconds, self._processor)
+                asked = process.ask(first, questions, called, self._seconds, self._processor)
                 for answer in asked:
                     found.append(answer)
             except BaseException as error:
@@ -128,6 +132,10 @@ class Worker(Questions):
             finally:
                 self._asked = before
             self._process = process
+
+
+def _late(seconds: float) -> TimeoutError:
+    return TimeoutError(f"no answer within {seconds:g} seconds")
 
 
 _WORKERS: weakref.WeakSet[Worker] = weakref.WeakSet()
@@ -168,27 +176,33 @@ class _Process(Child):
         )
 
     def ask(
-        self, first: int, questions: Sequence[tuple[Any, ...]], seconds: float, processor: int
+        self,
+        first: int,
+        questions: Sequence[tuple[Any, ...]],
+        begun: float,
+        seconds: float,
+        processor: int,
     ) -> Iterator[tuple[int, list[bytes]]]:
         """The status and the texts that come for each question, which are numbered from the first
-        one. Raises TimeoutError where they come too late, and EOFError where none do."""
+        one, begun at some time. Raises TimeoutError where they come too late, and EOFError where
+        none do."""
         alarm = min(math.ceil(seconds) + _GRACE, _MOST_ALARM)
         for number, (kind, *files) in enumerate(questions, first):
             self.put(number, b"%d %d %d" % (kind, alarm, processor), *files)
         self.write()
         come: deque[tuple[int, list[bytes]]] = deque()
         for number in range(first, first + len(questions)):
-            begun = time.monotonic()
             # before that it has not had its processor time
-            self._spent = begun + (processor or math.inf)
+            self._spent = time.monotonic() + (processor or math.inf)
             while not come:
                 come.extend(self.answers())
                 left = begun + seconds - time.monotonic()
                 if not come and left <= 0:
-                    raise TimeoutError(f"no answer within {seconds:g} seconds")
+                    raise _late(seconds)
                 if not come:
                     waited([self], min(left, _LONGEST))
             answered, (status, *texts) = come.popleft()
             if answered != number:
                 raise RuntimeError(f"the worker answered question {answered} instead of {number}")
             yield int(status), [text for text in texts if text]
+            begun = time.monotonic()

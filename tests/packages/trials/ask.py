@@ -17,8 +17,8 @@ def main(names: list[str]) -> int:
     ]
     try:
         result = nonobench.check(picture, certificate, published=published)
-    except nonobench.CertificateFault as fault:
-        print("refused: certificate", fault.name, "at line", fault.line)
+    except nonobench.CertificateError as error:
+        print("refused: certificate", error.name, "at line", error.line)
         return 1
     count = len(result.givens)
     print("certificate accepted" + (f", givens {count}" if count else ""))

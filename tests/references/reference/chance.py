@@ -2,7 +2,8 @@
 seeded random.Random."""
 import re
 
-from .certificates import some_cert
+import plain_forms
+
 from .lines import clue_of
 
 NUMBERS = [
@@ -289,8 +290,13 @@ def some_check(chance, most, colours):
     rows, triples, text = some_ppm(chance, most, colours)
     height, width = len(rows), len(rows[0])
     share = chance.choice((0, 0, 0.1, 0.4))
-    givens = [(r, c) for r in range(height) for c in range(width) if chance.random() < share]
-    cert = some_cert(rows, givens, chance)
+    cells = [(r, c) for r in range(1, height + 1) for c in range(1, width + 1)]
+    givens = [cell for cell in cells if chance.random() < share]
+    form = chance.choice(plain_forms.FORMS[1:] if givens else plain_forms.FORMS)
+    lines = plain_forms.walk(chance, plain_forms.Puzzle(rows), form, givens)
+    if form == 'nonolemma 2':
+        lines = plain_forms.joined(chance, lines)
+    cert = plain_forms.text_of(chance, lines)
     for _ in range(chance.choice((0, 0, 1, 1, 2))):
         cert = other_tree(chance, cert, height, width)
     return text, cert, triples[0] if chance.random() < 0.8 else None

@@ -1,9 +1,7 @@
-"""What a check of a certificate answers: trees by the reader of this folder, and certificates with
-lemmas by that of plain_forms.py."""
+"""What a check of a certificate answers."""
 import plain_forms
+from plain_forms import Fault
 
-from .certificates import check_cert, read_cert
-from .faults import Fault
 from .pictures import read_ppm
 
 
@@ -13,10 +11,7 @@ def answer(picture, text, background):
     try:
         rows = read_ppm(picture, background).rows
         kind, unit = 'certificate', 'line'
-        if text.startswith(b'nonolemma'):
-            givens, _ = plain_forms.check(plain_forms.Puzzle(rows), text)
-        else:
-            givens = check_cert(rows, read_cert(text))
-    except (Fault, plain_forms.Fault) as fault:
+        givens, _ = plain_forms.check(plain_forms.Puzzle(rows), text)
+    except Fault as fault:
         return f'{kind} {fault.name} at {unit} {fault.place}', 1
     return f'certificate accepted, givens {givens}' if givens else 'certificate accepted', 0

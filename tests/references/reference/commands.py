@@ -1,7 +1,7 @@
 """The commands of a session: lines, words and their faults."""
 import re
 
-from .faults import Fault
+from plain_forms import Fault
 
 MOST_BYTES = 200
 PLACE, SAMPLE, COLOUR, SPLITS = 'place', 'sample', 'colour', 'splits'

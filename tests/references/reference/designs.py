@@ -1,6 +1,7 @@
 """Edits of a document, their refusals, and the history along which they are undone and made again.
 """
-from .faults import Fault
+from plain_forms import Fault
+
 from .pictures import MAX_COLOURS, MAX_SIDE
 
 EDITS = {

@@ -1,7 +1,8 @@
 """Two-colour puzzles in .non, both ways."""
 import re
 
-from .faults import Fault
+from plain_forms import Fault
+
 from .lines import clue_of, clues_of
 from .pictures import MAX_SIDE, value_of
 

@@ -1,7 +1,7 @@
 """Documents, and plain PPM texts both ways."""
 import re
 
-from .faults import Fault
+from plain_forms import Fault
 
 MAX_SIDE = 120
 MAX_COLOURS = 16

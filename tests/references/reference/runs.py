@@ -1,10 +1,9 @@
 """What a run of the program must write, say and answer."""
 import plain_forms
+from plain_forms import Fault
 
 from .assessments import Assessment
-from .certificates import read_cert
 from .checks import answer
-from .faults import Fault
 from .lines import clues_of
 from .non import read_non
 from .pictures import Document, read_ppm
@@ -62,7 +61,7 @@ def check_run(run, text, cert, background):
     height, width = len(rows), len(rows[0])
     if height * width <= 20:
         base = [[0xFFFF] * width for _ in range(height)]
-        for row, col in read_cert(cert)[1]:
+        for row, col in plain_forms.read_certificate(cert)[1]:
             base[row - 1][col - 1] = 1 << rows[row - 1][col - 1]
         found = pictures_with(clues_of(rows), height, width, base, 2)
         agree(
@@ -146,7 +145,7 @@ class Puzzle:
             assessment = Assessment(
                 document, lambda givens: session.verdict_on(givens, allowance), self.cert
             )
-        except (Fault, plain_forms.Fault) as fault:
+        except Fault as fault:
             output.must_lines(
                 f'refused {kind} {fault.name}'
                 + ('' if fault.place is None else f' at {unit} {fault.place}')

@@ -5,11 +5,10 @@ import re
 from pathlib import Path
 
 import plain_forms
+from plain_forms import Fault
 
 from .assessments import Assessment, Solving, are_too_similar, by_listing, guesses_of, word_of
-from .certificates import check_cert, read_cert
 from .checks import answer
-from .faults import Fault
 from .lines import clue_of, fillings, map_rows, narrow_by_listing, narrow_by_places, settled
 from .non import read_non, write_non
 from .pictures import Document, read_ppm
@@ -131,6 +130,7 @@ def test_texts():
         b'width 2\nheight 2\nrows\n2\n1\ncolumns\n2\n1\ngoal "1110"\n',
         'write non',
     )
+    puzzle = plain_forms.Puzzle(rows_of('a./.b'))
     proof = 'nonocert 1|line r 1|split 1 1|line c 1|dead r 2|line r 1|line c 1|line c 2|done'
     for text, fault in (
         (proof, None),
@@ -144,7 +144,7 @@ def test_texts():
     ):
         text = text.replace('|', '\n') + ('\n' if fault == ('BadLine', 2) else '')
         must(
-            fault_of(lambda cert: check_cert(rows_of('a./.b'), read_cert(cert)), text.encode()),
+            fault_of(lambda cert: plain_forms.check(puzzle, cert), text.encode()),
             fault,
             text,
         )
@@ -357,7 +357,7 @@ def test_assessments():
             b'nonocert 2\ngiven 2 2\nline r 2\nline c 2\nline r 1\ndone\n',
         )
         must(None, 'UnpublishedGiven', 'a given that is not published')
-    except plain_forms.Fault as fault:
+    except Fault as fault:
         must((fault.name, fault.place), ('UnpublishedGiven', 2), 'a given that is not published')
 
 

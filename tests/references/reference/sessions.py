@@ -1,11 +1,12 @@
 """A session replayed: what each line must print, and where the text is free, whether it is true."""
 import re
 
-from . import certificates
+import plain_forms
+from plain_forms import Fault
+
 from .assessments import Assessment, Solving, read_assessment
 from .commands import asks, command_of
 from .designs import EDITS, History
-from .faults import Fault
 from .lines import base_of, clue_text, forces, letter, line_of, map_rows, mask_letters
 from .non import lines_of, write_non
 from .pictures import write_ppm
@@ -256,14 +257,17 @@ class Session:
             output.must_lines('ambiguous')
             return
         givens = sorted(self.document.givens)
-        output.must_lines('nonocert 2' if givens else 'nonocert 1')
+        form = 'nonocert 2' if givens else 'nonocert 1'
+        output.must_lines(form)
         output.must_lines(*(f'given {row + 1} {col + 1}' for row, col in givens))
-        walk = certificates.Walk(self.document.ordered().rows, givens)
-        while not walk.is_whole():
+        puzzle = plain_forms.Puzzle(self.document.ordered().rows)
+        cells = [puzzle.cell(row + 1, col + 1) for row, col in givens]
+        tree = plain_forms.start(puzzle, form, cells)
+        while tree.places:
             said = output.line()
-            line = certificates.line_in(said)
-            agree(line is not None, f'no line of a certificate: {said[:300]!r}')
-            fault = walk.take(line)
+            steps = plain_forms.read_line(said.decode('latin-1'), form)
+            agree(steps is not None, f'no line of a certificate: {said[:300]!r}')
+            fault = tree.step(*steps[0])
             agree(fault is None, f'{said!r} is {fault}')
 
     def say_path(self, output):

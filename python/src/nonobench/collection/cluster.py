@@ -6,7 +6,7 @@ import contextlib
 from concurrent.futures import Executor
 from typing import Iterator
 
-from .puzzles import Missing
+from .puzzles import MissingLibraryError
 
 
 @contextlib.contextmanager
@@ -15,6 +15,6 @@ def executor_at(address: str) -> Iterator[Executor]:
     try:
         from distributed import Client
     except ImportError:
-        raise Missing("distributed", "goes with --scheduler") from None
+        raise MissingLibraryError("distributed", "goes with --scheduler") from None
     with Client(address, set_as_default=False) as client:  # type: ignore[no-untyped-call]
         yield client.get_executor(pure=False)

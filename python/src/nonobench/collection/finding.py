@@ -11,9 +11,10 @@ import stat
 from collections import Counter
 from typing import Iterable, Iterator, NamedTuple, Optional
 
-from .._serve import read
+from .._answers import UnreadableError
 from .._calls import MOST_BYTES
-from .puzzles import Question, Unreadable, need
+from .._serve import read
+from .puzzles import Question, need
 
 PUZZLES = (".ppm", ".pgm", ".pbm", ".pnm", ".png", ".non", ".xml")  # in any letters
 ENDINGS = {".cert": "certificate", ".givens": "givens", ".background": "background"}
@@ -133,7 +134,7 @@ def _of_none(left: dict[str, str], puzzles: list[str]) -> Iterator[Found]:
 
 
 def question_of(found: Found) -> Question:
-    """A puzzle with all that belongs to it, as bytes. Unreadable says why it cannot be read."""
+    """A puzzle with all that belongs to it, as bytes. UnreadableError says why there is none."""
     need(not found.why, found.why)
     parts = {
         ENDINGS[ending]: bytes_of(path, f"its {ENDINGS[ending]}: ")
@@ -143,7 +144,7 @@ def question_of(found: Found) -> Question:
 
 
 def bytes_of(path: str, whose: str = "") -> bytes:
-    """The bytes of a regular file, or Unreadable. No link is followed, and no pipe waited for."""
+    """The bytes of a regular file. No link is followed, and no pipe waited for: UnreadableError."""
     try:
         handle = os.open(path, os.O_NONBLOCK | os.O_CLOEXEC | os.O_NOFOLLOW)
         try:
@@ -153,7 +154,9 @@ def bytes_of(path: str, whose: str = "") -> bytes:
             return read(handle, status.st_size)
         finally:
             os.close(handle)
-    except (OSError, ValueError) as error:
+    except UnreadableError:
+        raise
+    except (OSError, ValueError) as error:  # a name may have a NUL
         is_link = isinstance(error, OSError) and os.path.islink(path)
         why = "this is a link" if is_link else getattr(error, "strerror", None) or str(error)
-        raise Unreadable(f"{whose}{why}") from error
+        raise UnreadableError(f"{whose}{why}") from error

@@ -10,20 +10,24 @@ from typing import Optional
 from .. import _images, _serve
 from .._answers import (
     Assessment,
-    CertificateFault,
-    Fault,
-    Given,
+    CertificateError,
     Ruling,
-    UnpublishedGiven,
+    UnpublishedGivenError,
+    UnreadableError,
     givens_of,
     refused_flaws,
 )
-from .._calls import Colour, Questions, colour_word, picture_of
+from .._calls import Colour, Questions, colour_word
 from .._hints import hint_of
-from .._library import DONE, MEMORY, Desk
+from .._library import DONE, Desk
 from . import reading, webpbn
-from .puzzles import BLACK, WHITE, Missing, Options, Question, Row, Unreadable, need
-from .reading import Picture
+from .puzzles import (
+    MissingLibraryError,
+    Options,
+    Question,
+    Row,
+)
+from .reading import Picture, cells_of, painted
 from .rows import graded, shown_in
 from .shapes import shape_of
 
@@ -97,9 +101,9 @@ def row_of(question: Question, options: Options) -> Row:
     row: Row = {"file": question.name}
     try:
         row.update(_judged(question, options))
-    except Missing as error:
+    except MissingLibraryError as error:
         row.update(verdict="error", fit=False, error=str(error), missing=error.library)
-    except (Unreadable, Fault, ValueError) as error:
+    except ValueError as error:
         row.update(verdict="error", fit=False, error=str(error))
     except MemoryError:
         raise
@@ -117,9 +121,9 @@ def _judged(question: Question, options: Options) -> Row:
     if question.certificate is not None:
         said, row["certificate"] = _by_certificate(picture, question.certificate)
     elif options.is_certified:
-        raise Unreadable("there is no certificate")
+        raise UnreadableError("there is no certificate")
     if said is None and options.is_certified:
-        raise Unreadable(f"its certificate is refused: {row['certificate']['why']}")
+        raise UnreadableError(f"its certificate is refused: {row['certificate']['why']}")
     if said is None:
         said = _assessed(picture, None, options.max_guesses)
     is_accepted = row.get("certificate", {"accepted": True})["accepted"]
@@ -161,31 +165,25 @@ def _shown(picture: Picture, said: Assessment) -> Row:
         "shape": shape_of(rows),
     }
     if picture.givens:
-        row["givens"] = [list(given) for given in _cells_of(picture.givens)]
+        row["givens"] = [list(given) for given in cells_of(picture.givens)]
     if said.verdict.other:
         row["other"] = "/".join(said.verdict.other)
     return row
-
-
-def _cells_of(givens: bytes) -> list[Given]:
-    """The cells of a file of givens that was accepted, in row order."""
-    words = [line.split(b" ") for line in givens.splitlines()]
-    return sorted(Given(int(row), int(column)) for _, row, column in words)
 
 
 def _by_certificate(picture: Picture, certificate: bytes) -> tuple[Optional[Assessment], Row]:
     """What a certificate proves, if it is accepted, and what is said of it."""
     try:
         said = _assessed(picture, certificate, 0)
-    except UnpublishedGiven as fault:
+    except UnpublishedGivenError as error:
         return None, {
             "accepted": False,
-            "why": str(fault),
-            "givens": [list(given) for given in fault.givens],
+            "why": str(error),
+            "givens": [list(given) for given in error.givens],
         }
-    except CertificateFault as fault:
-        hint = hint_of(fault, certificate)
-        return None, {"accepted": False, "why": f"{fault} ({hint})" if hint else str(fault)}
+    except CertificateError as error:
+        hint = hint_of(error, certificate)
+        return None, {"accepted": False, "why": f"{error} ({hint})" if hint else str(error)}
     givens = [list(given) for given in givens_of(certificate)]
     return said, {"accepted": True, "givens": givens} if givens else {"accepted": True}
 
@@ -200,28 +198,13 @@ def _assessed(
 
 
 def _painted(picture: Picture, options: Options) -> Picture:
-    """A picture as a P3 text. A .non puzzle is the picture of its goal, or that is found for its
-    clues; these do not say which colours givens have."""
-    if not picture.is_non:
-        return picture
-    if picture.givens or options.is_certified:
+    """A picture as a P3 text. The clues of a .non puzzle do not say which colours givens have."""
+    if picture.is_non and (picture.givens or options.is_certified):
         try:  # of a puzzle with a goal, an empty certificate is refused, and without a search
             _assessed(picture, b"", 0)
-        except CertificateFault:
+        except CertificateError:
             pass
-    with Desk() as desk:
-        status, bench = desk.open(picture.text, b"", True)
-        status = desk.say(bench, b"write ppm\n") if status == DONE else status
-        text = desk.text()
-    if status == MEMORY:
-        raise MemoryError
-    need(text.startswith(b"P3"), text.decode("ascii"))
-    size, _, *cells = text.splitlines()[1:]
-    columns, rows = map(int, size.split())
-    colours = (picture.background or WHITE, picture.ink)
-    if colours != (WHITE, BLACK):
-        text = picture_of(columns, rows, (colours[cell == b"0 0 0"] for cell in cells))
-    return picture._replace(text=text, is_non=False)
+    return painted(picture, _library)
 
 
 def files_of(question: Question, options: Options) -> dict[str, bytes]:
@@ -247,4 +230,4 @@ def _made(text: bytes, background: Optional[Colour], givens: bytes) -> Optional[
     if not givens:
         found = _library.prove(text, background).certificate
         return found or _library.certify(text, background)
-    return _library.certify_with(text, background, _cells_of(givens))
+    return _library.certify_with(text, background, cells_of(givens))

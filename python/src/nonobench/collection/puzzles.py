@@ -5,6 +5,7 @@ from __future__ import annotations
 import re
 from typing import Any, NamedTuple, Optional
 
+from .._answers import UnreadableError
 from .._calls import Colour
 
 MOST_COLOURS = 16  # with the background
@@ -20,15 +21,12 @@ _UNSEEN = re.compile(
 MOST_TITLE = 200
 
 
-class Unreadable(Exception):
-    """A puzzle is not read. The text says why in one line."""
-
-
-class Missing(Unreadable):
+class MissingLibraryError(ImportError):
     """A library is not installed that a file or an option needs."""
 
     def __init__(self, library: str, use: str) -> None:
         super().__init__(f"{library}, which {use}, is not installed (pip install {library})")
+        self.args = (library, use)
         self.library = library
 
 
@@ -73,7 +71,7 @@ class Answer(NamedTuple):
 def need(is_right: object, why: str) -> None:
     """Refuses a puzzle where something is not right."""
     if not is_right:
-        raise Unreadable(why)
+        raise UnreadableError(why)
 
 
 def one_line(text: str, most: int = MOST_TITLE) -> str:

@@ -6,10 +6,19 @@ import re
 from typing import NamedTuple, Optional
 
 from .. import _images
-from .._answers import ImageFault
-from .._calls import Colour
+from .._answers import Given, Puzzle, UnreadableError
+from .._calls import Colour, Questions, colour_word, is_non
+from .._calls import picture_of as text_of
 from . import webpbn
-from .puzzles import BLACK, MOST_COLOURS, WHITE, Missing, Options, Question, Unreadable, need
+from .puzzles import (
+    BLACK,
+    MOST_COLOURS,
+    WHITE,
+    MissingLibraryError,
+    Options,
+    Question,
+    need,
+)
 
 # What a text begins with that an editor saved otherwise than as ASCII or UTF-8.
 _ODD_STARTS = {
@@ -55,29 +64,63 @@ def picture_of(question: Question, options: Options) -> Picture:
     return picture._replace(givens=question.givens)
 
 
+def puzzles_of(data: bytes, background: Optional[Colour], asked: Questions) -> list[Puzzle]:
+    """The puzzles of a file, whatever it is, with the background and the givens that it names."""
+    named = None if background is None else colour_word(background)
+    question = Question("", data, background=named)
+    word = _word_of(question, Options())
+    if _is_xml(data):
+        drawn = webpbn.puzzles_of_xml(data)
+        found = [_picture_of_xml(one, question, word, False) for one in drawn]
+    else:
+        found = [_read(question, word, False)]
+    return [
+        Puzzle(one.text, one.background, tuple(cells_of(one.givens)), one.title)
+        for one in (painted(picture, asked) for picture in found)
+    ]
+
+
+def cells_of(givens: bytes) -> list[Given]:
+    """The cells of a file of givens that is right, in row order."""
+    words = [line.split(b" ") for line in givens.splitlines()]
+    return sorted(Given(int(row), int(column)) for _, row, column in words)
+
+
+def painted(picture: Picture, asked: Questions) -> Picture:
+    """A picture as a P3 text. A .non puzzle is the picture of its goal, or one that is found for
+    its clues."""
+    if not picture.is_non:
+        return picture
+    text = asked.picture_of_non(picture.text)
+    size, _, *cells = text.splitlines()[1:]
+    columns, rows = map(int, size.split())
+    colours = (picture.background or WHITE, picture.ink)
+    if colours != (WHITE, BLACK):
+        text = text_of(columns, rows, (colours[cell == b"0 0 0"] for cell in cells))
+    return picture._replace(text=text, is_non=False)
+
+
 def _word_of(question: Question, options: Options) -> str:
     """The background that is named for a puzzle: by the file that belongs to it, else by the
     option."""
     if question.background is None:
         return options.background
     word = question.background.strip().decode("ascii", "replace")
+    need(word != _AUTO, "its background must be white or R,G,B")
     try:
-        need(word != _AUTO, "its background must be white or R,G,B")
         background_named(word)
     except ValueError as error:
-        raise Unreadable(f"its background {error}") from error
+        raise UnreadableError(f"its background {error}") from error
     return word
 
 
 def _read(question: Question, word: str, is_untrusted: bool) -> Picture:
     data, suffix = question.data, question.name.lower().rpartition(".")[2]
-    is_xml = data.removeprefix(b"\xef\xbb\xbf").lstrip()[:1] == b"<"
-    if not is_xml:
-        odd = _ODD_STARTS.get(data[:3]) or _ODD_STARTS.get(data[:2])
-        need(not odd, odd or "")
-    if is_xml:
-        return _read_xml(question, word, is_untrusted)
-    if suffix == "non":
+    if _is_xml(data):
+        return _picture_of_xml(webpbn.puzzle_of_xml(data), question, word, is_untrusted)
+    odd = _ODD_STARTS.get(data[:3]) or _ODD_STARTS.get(data[:2])
+    need(not odd, odd or "")
+    if suffix == "non" or is_non(data) and not _images.is_image(data):
         own = question.background is None or word in (_WHITE, "255,255,255")
         need(own, "its background is white, as of each .non puzzle")
         return Picture(data, is_non=True)
@@ -85,6 +128,10 @@ def _read(question: Question, word: str, is_untrusted: bool) -> Picture:
         named = background_named(word)
         return Picture(data, named, "named" if named or word == _WHITE else _WHITE)
     return _read_image(data, word)
+
+
+def _is_xml(data: bytes) -> bool:
+    return data.removeprefix(b"\xef\xbb\xbf").lstrip()[:1] == b"<"
 
 
 def _read_image(data: bytes, word: str) -> Picture:
@@ -102,15 +149,14 @@ def _read_image(data: bytes, word: str) -> Picture:
         need(few, f"more than {MOST_COLOURS} colours with the background")
         return Picture(pixels.picture(background), background, why)
     except ImportError:
-        raise Missing("Pillow", "reads PNG") from None
-    except ImageFault as fault:
-        raise Unreadable(str(fault)) from fault
+        raise MissingLibraryError("Pillow", "reads PNG") from None
 
 
-def _read_xml(question: Question, word: str, is_untrusted: bool) -> Picture:
+def _picture_of_xml(
+    drawn: webpbn.Drawn, question: Question, word: str, is_untrusted: bool
+) -> Picture:
     """The background and the givens are those that the XML names, unless a file names others. Those
     of a stranger's count for nothing."""
-    drawn = webpbn.puzzle_of_xml(question.data)
     is_named = question.background is not None
     if drawn.ink is not None:
         need(not is_named and not question.givens, "it has clues only: no background or givens")

@@ -13,6 +13,7 @@ from types import FrameType
 from typing import Iterable, Iterator, NoReturn, Optional
 
 from .. import _loading
+from .._answers import UnreadableError
 from .._library import version
 from . import webpbn
 from .arguments import Arguments, arguments_of, fail, refused_elsewhere, unpack_arguments
@@ -20,7 +21,7 @@ from .asking import Entry, Pack, answers, key_of
 from .finding import Found, Search, bytes_of, question_of
 from .outputs import Database, Lines, Printed, Sink, Spreadsheet, Table, write_file
 from .progress import Progress
-from .puzzles import Answer, Row, Unreadable
+from .puzzles import Answer, Row
 from .rows import printable
 from .tally import FAILED, Tally
 
@@ -67,7 +68,7 @@ def unpack(name: str, folder: str) -> int:
         stem, width = os.path.splitext(os.path.basename(name))[0], len(str(len(files)))
         for number, data in enumerate(files, 1):
             write_file(os.path.join(folder, f"{stem}-{number:0{width}}.xml"), data)
-    except (Unreadable, OSError) as error:
+    except (UnreadableError, OSError, ImportError) as error:
         fail(f"{printable(name)}: {error}")
     print(f"{len(files)} puzzles in {printable(folder)}")
     return 0
@@ -76,7 +77,7 @@ def unpack(name: str, folder: str) -> int:
 def _run(words: list[str]) -> int:
     try:
         return Run(arguments_of(words)).run()
-    except (OSError, sqlite3.Error, ImportError, RuntimeError, Unreadable) as error:
+    except (OSError, sqlite3.Error, ImportError, RuntimeError, UnreadableError) as error:
         print(f"nonobench-audit: {_words_of(error)}", file=sys.stderr)
         _leave(FAILED)
 
@@ -189,7 +190,7 @@ class Run:
         for found in self._found():
             try:
                 question = question_of(found)
-            except Unreadable as error:
+            except UnreadableError as error:
                 said: Row = {"file": found.name, "verdict": "error", "fit": False}
                 yield Entry(None, {**said, "error": str(error), "tool": f"nonobench {version()}"})
                 continue
@@ -271,6 +272,8 @@ def _names_in(name: str, arguments: Arguments) -> Iterator[str]:
         for line in lines:
             path = line.rstrip("\n")
             if has_folder and refused_elsewhere(path):
-                raise Unreadable(f"{printable(path)}: no place below --beside, --certify or --ppm")
+                raise UnreadableError(
+                    f"{printable(path)}: no place below --beside, --certify or --ppm"
+                )
             if path:
                 yield path

@@ -12,8 +12,16 @@ import re
 from typing import Any, Iterator, NamedTuple, Optional
 from xml.etree.ElementTree import Element, tostring
 
+from .._answers import UnreadableError
 from .._calls import MOST_CELLS, Colour, picture_of
-from .puzzles import BLACK, MOST_COLOURS, WHITE, Missing, Unreadable, need, one_line
+from .puzzles import (
+    BLACK,
+    MOST_COLOURS,
+    WHITE,
+    MissingLibraryError,
+    need,
+    one_line,
+)
 
 SPACE = " \t\r\n"  # of XML; other letters count nowhere for blanks
 GIVENS = "givens"
@@ -61,6 +69,11 @@ def puzzle_of_xml(data: bytes) -> Drawn:
     return puzzle_of(puzzles[0])
 
 
+def puzzles_of_xml(data: bytes) -> list[Drawn]:
+    """All puzzles of an XML text."""
+    return list(map(puzzle_of, elements_of(data)))
+
+
 def files_of(data: bytes) -> Iterator[bytes]:
     """Each puzzle of a set, as an XML text of its own."""
     for element in elements_of(data):
@@ -75,16 +88,16 @@ def elements_of(data: bytes) -> list[Element]:
         from defusedxml import ElementTree
         from defusedxml.common import DefusedXmlException
     except ImportError:
-        raise Missing("defusedxml", "reads XML") from None
+        raise MissingLibraryError("defusedxml", "reads XML") from None
     try:
         text = _DOCTYPE.sub("", data.decode("utf-8-sig"), count=1)
         outer: Element = ElementTree.fromstring(text, forbid_dtd=True)
     except UnicodeDecodeError as error:
-        raise Unreadable("the XML is not UTF-8") from error
+        raise UnreadableError("the XML is not UTF-8") from error
     except DefusedXmlException as error:
-        raise Unreadable("the XML has declarations of its own") from error
+        raise UnreadableError("the XML has declarations of its own") from error
     except (ElementTree.ParseError, ValueError) as error:
-        raise Unreadable(f"the XML cannot be read: {one_line(str(error))}") from error
+        raise UnreadableError(f"the XML cannot be read: {one_line(str(error))}") from error
     need(
         not outer.tag.lower().endswith("svg"),
         "this is SVG: convert it to PNG: nonobench.html opens it",
@@ -189,12 +202,14 @@ def _order(inks: dict[str, Ink], ground: str, used: set[str]) -> tuple[list[Ink]
         before = by_sign.get(ink.sign or "")
         is_twice = before is not None and before.is_declared and ink.is_declared
         if is_twice and ink.sign in used:
-            raise Unreadable(f"two colours of the puzzle have the sign {one_line(ink.sign, 2)!r}")
+            raise UnreadableError(
+                f"two colours of the puzzle have the sign {one_line(ink.sign, 2)!r}"
+            )
         if ink.sign and (before is None or ink.is_declared):
             by_sign[ink.sign] = ink
     for sign in sorted(used - by_sign.keys()):
         why = "which is not a colour of the puzzle"
-        raise Unreadable(f"the solution has a cell {one_line(sign, 2)!r}, {why}")
+        raise UnreadableError(f"the solution has a cell {one_line(sign, 2)!r}, {why}")
     others = [by_sign[sign] for sign in sorted(used) if by_sign[sign].name != ground]
     seen = [inks[ground], *others]
     need(len(seen) <= MOST_COLOURS, f"more than {MOST_COLOURS} colours with the background")

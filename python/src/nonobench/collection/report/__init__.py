@@ -11,7 +11,7 @@ from typing import Any
 
 from ..._library import version
 from ..outputs import NewFile, Sink, text_of
-from ..puzzles import Missing, Row
+from ..puzzles import MissingLibraryError, Row
 from ..rows import FIGURES, FITNESS, GRADES, fitness_of, flaws_of, printable, words_of
 from ..tally import Tally
 
@@ -139,7 +139,7 @@ def _environment() -> Any:
     try:
         from jinja2 import Environment, FileSystemLoader, StrictUndefined
     except ImportError:
-        raise Missing("Jinja2", "makes the report") from None
+        raise MissingLibraryError("Jinja2", "makes the report") from None
     environment = Environment(
         loader=FileSystemLoader(_FOLDER),
         autoescape=True,
