@@ -77,10 +77,9 @@ function ask(workerData) {
   worker.once('error', (error) => tell(false, error.message));
 }
 
-// Whether a flaw is of an allowed kind. A published cell that the certificate does not name counts
-// as a given.
+// Whether a flaw is of an allowed kind.
 function isAllowed(flaw, allowed) {
-  const [kind] = flaw.replace('spare', 'given').split(' ');
+  const [kind] = flaw.split(' ');
   return allowed.includes('any') || allowed.includes(kind);
 }
 
