@@ -1,4 +1,4 @@
-"""The package goes with a library of its own version: its tests wait for the release that has it."""
+"""The package goes with a library of its own version. Its tests wait for the release with that."""
 
 import pytest
 

@@ -57,6 +57,8 @@ function searchesOf(texts, seconds = 60) {
   searches.state = stateOf(['ab', 'ca']);
   return {searches, log, seen};
 }
+// The picture of these searches as it is written.
+const PPM = 'P3\n2 2\n255\n0 0 0\n255 0 0\n0 0 255\n0 0 0\n';
 const pause = (ms) => new Promise((go) => setTimeout(go, ms));
 const until = async (holds) => {
   while (!holds()) await pause(5);
@@ -76,7 +78,7 @@ test(
     async () => {
       const certificate = 'nonocert 1\nline r 1\ndone\n';
       const {searches, log} =
-          searchesOf(['ok\nunique\n', 'P3\n', {ok: {ruling: 'unique', certificate}}]);
+          searchesOf(['ok\nunique\n', PPM, {ok: {ruling: 'unique', certificate}}]);
       await searches.judge();
       assert.equal(await searches.prove(), certificate);
       assert.equal(log.filter((line) => line === 'open').length, 1);
@@ -104,17 +106,18 @@ test('Stop, a stroke and the end of the time end the worker at once', async () =
 test(
     'a certificate is made of the picture as it is written, with its givens, and tells the verdict',
     async () => {
-      const ppm = 'P3\n2 2\n255\n0 0 0\n255 0 0\n0 0 255\n0 0 0\n',
-            certificate = 'nonolemma 2\ndone\n';
-      const {searches, log, seen} = searchesOf([ppm, {ok: {ruling: 'unique', certificate}}]);
+      const certificate = 'nonolemma 2\ndone\n', pinned = 'ok\nok\n';
+      const {searches, log, seen} =
+          searchesOf([pinned, PPM, {ok: {ruling: 'unique', certificate}}]);
       searches.state = stateOf(['ab', 'ca'], [1, 2]);
       assert.equal(await searches.prove(), certificate);
       assert.deepEqual(log, [
         'start',
         'open',
+        'pin 1 2; pin 2 1',
         'write ppm',
         `prove ${JSON.stringify({
-          picture: ppm,
+          picture: PPM,
           background: '255,255,255',
           published: [[1, 2], [2, 1]],
           complete: true
@@ -122,7 +125,7 @@ test(
       ]);
       assert.deepEqual(seen.judged.map((verdict) => verdict.word), ['unique']);
       const other = searchesOf(
-          [ppm, {ok: {ruling: 'ambiguous', certificate: null}}, 'ok\nambiguous\nba\nac\n']
+          [PPM, {ok: {ruling: 'ambiguous', certificate: null}}, 'ok\nambiguous\nba\nac\n']
       );
       assert.equal(await other.searches.prove(), null);
       assert.deepEqual(other.seen.judged.map((verdict) => verdict.word), ['ambiguous']);
