@@ -58,8 +58,8 @@ module _ (picture : Rows) (givens others : List ℕ) (row col : ℕ) (before aft
   given_closed : HasCell givens row col → IsOpenCell before row col → ⊥
   given_closed g o =
       let only : (k : ℕ) → Leaves before row col k → k ≡ cell_at picture row col = λ k l.
-          let inside = left_inside picture before row col k is (map_shape picture givens before map_before) l in
-          ((map_before.1.0.left row col k inside.0 inside.1).0 (map_before.1.1.holds.leaves row col k l)).1 g in
+      let inside = left_inside picture before row col k is (map_shape picture givens before map_before) l in
+      ((map_before.1.0.left row col k inside.0 inside.1).0 (map_before.1.1.holds.leaves row col k l)).1 g in
       o.4 (only o.0 o.2 ∙ sym (only o.1 o.3))
 
   -- where the same cells are open, lines settle the cell without the given
@@ -104,8 +104,8 @@ module _ (picture : Rows) (givens others : List ℕ) (row col : ℕ) (before aft
         let long : col < length (row_at other row) = (let r = is.rectangular row h in let same = s.columns row in omega arith) in
         let here : cell_at other row col ≡ cell_at picture row col = own (cell_at other row col) (scene.sound.leave other s row col long) in
         let there : (r c : ℕ) → r ≡ row → c ≡ col → cell_at other r c ≡ cell_at picture r c = λ r c e f.
-            let P : ℕ → ℕ → Type 0 = λ x y. cell_at other x y ≡ cell_at picture x y in
-            subst (λ (x : ℕ). P x c) (sym e) (subst (λ (y : ℕ). P row y) (sym f) here) in
+        let P : ℕ → ℕ → Type 0 = λ x y. cell_at other x y ≡ cell_at picture x y in
+        subst (λ (x : ℕ). P x c) (sym e) (subst (λ (y : ℕ). P row y) (sym f) here) in
         one other record {
           is_picture = s.is_picture;
           rows = s.rows;

@@ -272,10 +272,9 @@ fn allow<'a>(alloc: Global) -> Arg<'a>
     ensures rule { rule_of result ≡ allow_rule }
     ensures local { result.global ≡ false }
 {
-    Arg::new(alloc, "allow")
-        .long("allow")
-        .value_name("N")
-        .help("How many splits the search of a part may make, 0 to 99999, or off; 10000 if it is not given")
+    Arg::new(alloc, "allow").long("allow").value_name("N").help(
+        "How many splits the search of a part may make, 0 to 99999, or off; 10000 if it is not given",
+    )
 }
 
 fn certificate<'a>(alloc: Global) -> Arg<'a>

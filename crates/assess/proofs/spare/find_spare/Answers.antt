@@ -33,7 +33,7 @@ loop-col-preserved g c =
     let i = c.loop-col.invariant in
     let has = c.has.ensures.value.0 c.if-not-has.false in
     let needed = needed_if d.picture d.givens c.height.ensures.picture d.inside c.requires.mapped c.loop-row.row c.loop-col.col (i.tried.are _ _ has) c.in_ok-settles.settles c.if-settles.false
-        c.in_ok-settles.ensures.settles in
+    c.in_ok-settles.ensures.settles in
     record {
       tried =
           one_more d.picture d.givens c.loop-col.waiting c.take_out.new.self c.loop-row.row c.loop-col.col _ _ _ i.tried c.take_out.ensures.members (c.take_out.ensures.fewer has) needed
@@ -48,7 +48,7 @@ returns-then-settles-clause-spare g c =
     let i = c.loop-col.invariant in
     let has = c.has.ensures.value.0 c.if-not-has.false in (
       spare_if d.picture d.givens c.height.ensures.picture d.inside c.requires.mapped c.loop-row.row c.loop-col.col (i.tried.are _ _ has) c.in_ok-settles.settles c.if-settles.true
-      c.requires.only c.in_ok-settles.ensures.settles,
+          c.requires.only c.in_ok-settles.ensures.settles,
       i.tried.so_far,
     )
 
