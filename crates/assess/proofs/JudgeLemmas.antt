@@ -173,9 +173,6 @@ few_in_all picture givens (Some splits) figures before looked judged graded afte
       ),
     )
 
-pub none_by : (picture : Rows) (givens : List ℕ) (cert : Certificate) (before after : ℕ) → after ≤ before + length cert.lines → AreFewBy picture givens cert before after
-none_by picture givens cert before after l = ([], (inl refl, (let m : after ≤ before + (length cert.lines + (0 + most_besides picture givens)) = omega arith in m)))
-
 -- the check, the looks, a grade, and line logic without each given
 pub few_by : (picture : Rows) (givens : List ℕ) (cert : Certificate) (figures : Figures) (before checked looked graded after : ℕ) → HasFigures picture givens figures
     → checked ≤ before + length cert.lines → looked ≤ checked + figures.evaluations → graded ≤ looked + most_to_grade picture

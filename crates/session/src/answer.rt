@@ -300,8 +300,8 @@ fn assessment_text<E: LineEngine + Drop, A: Agenda + Drop>(
     ensures calls { bench.old.calls ≤ bench.new.calls }
 {
     let mut text = Vec::new(alloc);
-    let allowance = assess_allowance(is_off, bench.allowance());
-    let found = bench.assess(allowance)?;
+    let bound = assess_allowance(is_off, bench.allowance());
+    let found = bench.assess(bound)?;
     push_assessment(&mut text, &found)?;
     Ok(text)
 }
