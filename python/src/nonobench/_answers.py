@@ -261,8 +261,8 @@ class Audit:
 
 @dataclass(frozen=True)
 class Proved:
-    """What came of the search for a certificate with lemmas. There is one where the ruling is
-    UNIQUE. UNDECIDED: a bound was reached."""
+    """What came of the search for a certificate. There is one if the ruling is UNIQUE. If that is
+    UNDECIDED, a bound was reached."""
 
     ruling: Ruling
     certificate: Optional[bytes] = None
