@@ -30,10 +30,8 @@ export const EN = /** @type {const} */ ({
   'formats.height': 'height',
   'formats.maxval': 'maximum value',
   'formats.samples': 'samples',
-  'formats.picturesMaxvalNotFrom':
-      'The picture\'s maximum value is not between 1 and 65,535.',
-  'formats.sampleAboveMaxval':
-      'A sample is {sample}, above {maxval}, the maximum value.',
+  'formats.picturesMaxvalNotFrom': 'The picture\'s maximum value is not between 1 and 65,535.',
+  'formats.sampleAboveMaxval': 'A sample is {sample}, above {maxval}, the maximum value.',
   'formats.lineNoGiven': 'line {line} is not “given ROW COLUMN”',
   'formats.givenOutside': 'row {row}, column {column} is outside the picture',
   'formats.givenTwice': 'line {line} names a cell for the second time',
@@ -933,7 +931,8 @@ export const EN = /** @type {const} */ ({
   'start.dropFileHerePaste':
       'Drop files here, paste a picture (Ctrl+V), or choose files. Several are listed in a table with their verdicts.',
   'start.tapToChoose': 'Tap “Choose files …”. Several are listed in a table with their verdicts.',
-  'start.pngJpegGifWebp': 'An image (PNG, JPEG, GIF, WebP, BMP, AVIF, SVG) becomes a puzzle. PPM, PBM, .non and Web Paint-by-Number’s XML open as they are. The pictures of a saved zip are added to the library, and a certificate is checked against the open picture.',
+  'start.pngJpegGifWebp':
+      'An image (PNG, JPEG, GIF, WebP, BMP, AVIF, SVG) becomes a puzzle. PPM, PBM, .non and Web Paint-by-Number’s XML open as they are. The pictures of a saved zip are added to the library, and a certificate is checked against the open picture.',
   'start.chooseFile': 'Choose files …',
   'start.balloon': 'balloon',
   'start.heart': 'heart',
