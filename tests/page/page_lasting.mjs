@@ -352,7 +352,7 @@ export async function certificateDropped({browser, url, folder}) {
   await saysThat(page, 'only solution with its given cells');
   await page.run(() => bench.stroke(['unpin 1 1']));
   await drop(page, own, 'given.cert', given);
-  await saysThat(page, 'relies on given cells that this puzzle does not give');
+  await saysThat(page, 'relies on given cells that this puzzle does not have');
   await page.close();
 }
 
