@@ -272,7 +272,7 @@ export async function closedDatabase({page, trial}) {
   });
   await trial.drag([[2, 2]]);
   await page.until(
-      () => /storage does not take it/.test(document.getElementById('said').textContent),
+      () => /storage refuses it/.test(document.getElementById('said').textContent),
       5000 * SLACK
   );
   await page.run(() => runAction('print'));
