@@ -586,6 +586,15 @@ export const DE =
       'play.playSteps': 'Abspielen',
       'play.numberCellRoundFalls':
           'Die Zahl in einem Feld ist die Runde, in der es bestimmt wird; ? braucht mehr als Linienlogik.',
+      'play.path': 'Lösungsweg',
+      'play.share': '{share} %',
+      'play.afterShare': 'Nach {share} % des Weges',
+      'play.filmSaid':
+          'Nach {at} von {count|# Schritt|# Schritten} ({share} %): {known} von {cells|# Feld|# Feldern} bekannt.',
+      'play.selectPart':
+          'Wählen Sie einen Teil aus, etwa ein Gesicht, um zu sehen, wann die Hälfte davon bekannt ist.',
+      'play.halfKnown': 'Die Hälfte der Auswahl ist bei {share} % bekannt.',
+      'play.halfOpen': 'Der Weg lässt mehr als die Hälfte der Auswahl offen.',
       // ---- library
       'library.browsersStorageFull': 'Der Speicher des Browsers ist voll',
       'library.browsersStorageLate': 'Der Speicher des Browsers öffnet sich nicht',

@@ -565,6 +565,14 @@ export const EN = /** @type {const} */ ({
   'play.playSteps': 'Play',
   'play.numberCellRoundFalls':
       'The number in a cell is the round in which it is settled; ? needs more than line logic.',
+  'play.path': 'Solving path',
+  'play.share': '{share}%',
+  'play.afterShare': 'After {share}% of the path',
+  'play.filmSaid':
+      'After {at} of {count|# step|# steps} ({share}%): {known} of {cells|# cell|# cells} known.',
+  'play.selectPart': 'Select a part, such as a face, to see when a solver knows half of it.',
+  'play.halfKnown': 'Half of the selection is known at {share}%.',
+  'play.halfOpen': 'The path leaves more than half of the selection open.',
   // ---- library
   'library.browsersStorageFull': 'The browser’s storage is full',
   'library.browsersStorageLate': 'The browser’s storage does not open',

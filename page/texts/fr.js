@@ -581,6 +581,15 @@ export const FR =
       'play.playSteps': 'Lire',
       'play.numberCellRoundFalls':
           'Le nombre dans une case est le tour où elle est déterminée ; ? demande plus que la logique ligne par ligne.',
+      'play.path': 'Chemin de résolution',
+      'play.share': '{share} %',
+      'play.afterShare': 'Après {share} % du chemin',
+      'play.filmSaid':
+          'Après {at} pas sur {count} ({share} %) : {known} cases sur {cells} connues.',
+      'play.selectPart':
+          'Sélectionnez une partie, un visage par exemple, pour voir quand la moitié en est connue.',
+      'play.halfKnown': 'La moitié de la sélection est connue à {share} %.',
+      'play.halfOpen': 'Le chemin laisse ouverte plus de la moitié de la sélection.',
       // ---- library
       'library.browsersStorageFull': 'La mémoire du navigateur est pleine',
       'library.browsersStorageLate': 'La mémoire du navigateur ne s’ouvre pas',

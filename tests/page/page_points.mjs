@@ -6,6 +6,7 @@ import {fileURLToPath} from 'node:url';
 import {clean, downloaded, examples, fresh, hard, isKept, isOpen} from './page_hands.mjs';
 import {Hands} from './page_inputs.mjs';
 import {choosingPoint, palettesPoint, slidingPoint, visionPoint} from './page_coming.mjs';
+import {filmPoint} from './page_course.mjs';
 import {frenchPoint, germanPoint, mirroredPoint} from './page_languages.mjs';
 import {aimPoint, firstPoint, mendingPoint, walkingPoint} from './page_mending.mjs';
 import {othersPoint, printPoint} from './page_out.mjs';
@@ -374,6 +375,7 @@ const POINTS = {
   'place by place': placesPoint,
   'what a repair may change': limitsPoint,
   'the solving path': walkingPoint,
+  'film strip': filmPoint,
   'out of the page': wayOut,
   'what others get': othersPoint,
   'print for books': printPoint,
