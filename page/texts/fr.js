@@ -905,6 +905,20 @@ export const FR =
       'export.tintsAlike':
           'Les indices de {pair} se ressemblent sur papier : « Lettres » les distingue.',
       'export.print': 'Imprimer',
+      'export.makeBook': 'Faire un livre',
+      'export.bookTitle': 'Nonogrammes',
+      'export.cover': 'Une couverture',
+      'export.addFiles': 'Ajouter des fichiers …',
+      'export.addFolder': 'Ajouter un dossier …',
+      'export.judgedOf': '{at} sur {count} jugées',
+      'export.bookHolds':
+          '{puzzles|# grille|# de grilles|# grilles} sur {sheets|# feuille|# de feuilles|# feuilles} ; {left|# image laissée|# d’images laissées|# images laissées} de côté.',
+      'export.bookSaved':
+          '{puzzles|# grille enregistrée|# de grilles enregistrées|# grilles enregistrées} sous « {name}.zip ».',
+      'export.chooseForBook': 'Cochez d’abord une grille pour le livre.',
+      'export.gradesFromTo': '{from} à {to}',
+      'export.sheetBefore': 'Feuille précédente',
+      'export.sheetAfter': 'Feuille suivante',
       'export.saveSvg': 'Enregistrer en SVG',
       'export.saveSvgs': 'Enregistrer les feuilles en SVG (zip)',
       'export.printLettersSigns':

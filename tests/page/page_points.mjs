@@ -3,6 +3,7 @@
 import assert from 'node:assert/strict';
 import {readFileSync} from 'node:fs';
 import {fileURLToPath} from 'node:url';
+import {bookPoint} from './page_books.mjs';
 import {clean, downloaded, examples, fresh, hard, isKept, isOpen} from './page_hands.mjs';
 import {Hands} from './page_inputs.mjs';
 import {choosingPoint, palettesPoint, slidingPoint, visionPoint} from './page_coming.mjs';
@@ -381,6 +382,7 @@ const POINTS = {
   'print for books': printPoint,
   links: linkPoint,
   'two colours': segmentsPoint,
+  'a book': bookPoint,
   'the player': playerPoint,
   'several files': severalPoint,
   offline: offlinePoint,
