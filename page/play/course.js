@@ -36,11 +36,12 @@ const isOpen = () => $('course')?.open === true;
 
 // ---- what is shown
 
-const thumb = (share) => buttonOf('', phrase('play.share', {share}), () => goTo(share), {
-  'data-share': share,
-  'aria-label': phrase('play.afterShare', {share}),
-  disabled: true
-});
+const thumb = (share) => buttonOf(
+    '',
+    phrase('play.share', {share}),
+    () => goTo(share),
+    {'data-share': share, 'aria-label': phrase('play.afterShare', {share}), disabled: true}
+);
 
 function makeCourse() {
   const fold = make(
@@ -71,9 +72,8 @@ function makeCourse() {
 function drawKnown(canvas, at, most) {
   const {walk, of} = course;
   const letters = walk.letters(at).join('');
-  const picture = of.picture.map(
-      (_, row) => letters.slice(row * of.columns, (row + 1) * of.columns)
-  );
+  const picture =
+      of.picture.map((_, row) => letters.slice(row * of.columns, (row + 1) * of.columns));
   drawSmall(canvas, {...of, picture}, most);
 }
 
