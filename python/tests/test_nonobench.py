@@ -302,7 +302,7 @@ class Answers(unittest.TestCase):
                 self.assertIs(proved.ruling, Ruling.UNIQUE)
                 result = nonobench.check(DIAGONAL, proved.certificate, published=published)
                 self.assertEqual(result.givens, ((1, 1),))
-        with self.assertRaisesRegex(GivensFault, "^givens Place at line 2$"):
+        with self.assertRaisesRegex(GivensError, "^givens Place at line 2$"):
             nonobench.prove(DIAGONAL, published=[(1, 1), (1, 3)])
 
     def test_as_many_givens_as_the_largest_picture_has_cells(self):
