@@ -57,9 +57,9 @@ def answer_on(
         status = desk.prove(picture, background, givens, bool(complete), form)
     elif kind == ASSESS:
         words, _, certificate = rest.partition(b"\n")
-        non, allowance, is_by = map(int, words.split())
-        by = certificate if is_by else None
-        status = desk.assess(picture, bool(non), background, givens, by, allowance)
+        non, is_by, *allowance = words.split()
+        by = certificate if is_by == b"1" else None
+        status = desk.assess(picture, non == b"1", background, givens, by, b"".join(allowance))
     else:
         return _answer_of_bench(desk, kind == SESSION_OF_NON, picture, background, rest)
     return status, [desk.text()]
