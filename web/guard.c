@@ -29,7 +29,8 @@ unsigned nonobench_assess(
     _Bool,
     const byte *,
     u64,
-    unsigned
+    const byte *,
+    u64
 );
 u64 nonobench_version(byte *, u64);
 
@@ -164,10 +165,11 @@ unsigned assess_within(
     unsigned has_cert,
     u64 cert,
     u64 cert_size,
-    unsigned allowance
+    u64 allowance,
+    u64 allowance_size
 ) {
   if (!is_within(file, size) || !is_within(word, word_size) || !is_within(givens, givens_size) ||
-      !is_within(cert, cert_size))
+      !is_within(cert, cert_size) || !is_within(allowance, allowance_size))
     return refuse(desk);
   return nonobench_assess(
       here(desk),
@@ -182,7 +184,8 @@ unsigned assess_within(
       has_cert != 0,
       here(cert),
       cert_size,
-      allowance
+      here(allowance),
+      allowance_size
   );
 }
 

@@ -50,12 +50,12 @@ const DIAGONAL = 'P3 2 2 255 0 0 0 255 255 255 255 255 255 0 0 0\n';
 const PUZZLE = 'width 2\nheight 2\n\nrows\n1\n1\n\ncolumns\n1\n1\n\ngoal "1001"\n';
 
 // The plain call that assesses a puzzle in P3, with the texts of its background, its givens and its
-// certificate: addresses and lengths.
+// certificate, and an empty word for the allowance: addresses and lengths.
 function assessPlainly(
     calls, cell, [file, size, word, wordSize, givens, givensSize, cert, certSize]
 ) {
   return calls.nonobench_assess(
-      cell, file, size, 0, word, wordSize, 1, givens, givensSize, 1, cert, certSize, 0
+      cell, file, size, 0, word, wordSize, 1, givens, givensSize, 1, cert, certSize, file, 0n
   );
 }
 

@@ -43,12 +43,12 @@ static bool takes_any_given(void) {
   const nonobench_options any = {NULL, NULL, 0, true};
   nonobench_assessment it = {.size = sizeof it};
   if (nonobench_assess_puzzle(
-          PUZZLE, strlen(PUZZLE), true, GIVEN, strlen(GIVEN), &any, -1, &it, NULL
+          PUZZLE, strlen(PUZZLE), true, GIVEN, strlen(GIVEN), &any, NULL, &it, NULL
       ) != NONOBENCH_DONE)
     return false;
   if (!it.is_fit || it.givens != 1) return false;
   return nonobench_assess_puzzle(
-             PUZZLE, strlen(PUZZLE), true, WRONG, strlen(WRONG), &any, -1, &it, NULL
+             PUZZLE, strlen(PUZZLE), true, WRONG, strlen(WRONG), &any, NULL, &it, NULL
          ) == NONOBENCH_REFUSED &&
          !it.is_fit;
 }
@@ -77,7 +77,7 @@ int main(int count, char **words) {
   found.it.size = sizeof found.it;
 #endif
   uint32_t status = nonobench_assess_puzzle(
-      puzzle, size, false, is_by ? certificate : NULL, held, &options, -1, &found.it, &text
+      puzzle, size, false, is_by ? certificate : NULL, held, &options, NULL, &found.it, &text
   );
   if (status != NONOBENCH_DONE) {
     if (found.it.ruling != NONOBENCH_UNDECIDED || found.it.is_fit || found.it.rows != 0 ||
