@@ -27,12 +27,12 @@ _nonobench() {
     esac
     local offered
     case $command in
-        '') offered='work check prove assess verify help --help --version' ;;
+        '') offered='work check prove assess help --help --version' ;;
         work) offered='--format --background --history --help' files=1 ;;
-        check | verify) offered='--givens --background --help' files=1 ;;
+        check) offered='--givens --background --help' files=1 ;;
         prove) offered='--background --givens --complete --format --help' files=1 ;;
         assess) offered='--format --background --allow --givens --certificate --help' files=1 ;;
-        help) offered='work check prove assess verify help' ;;
+        help) offered='work check prove assess help' ;;
         *) return ;;
     esac
     if [[ $files = 1 && $word != -* ]]; then

@@ -47,14 +47,6 @@ CHECKS = {
         ['--background', '1,2'],
         Ended(2, b'', NO_BACKGROUND),
     ),
-    'no picture by the old name': ('verify', 'P6', '', [], Ended(1, b'', NO_PICTURE)),
-    'no background by the old name': (
-        'verify',
-        PIXEL,
-        '',
-        ['--background', '1,2'],
-        Ended(2, b'', NO_BACKGROUND),
-    ),
     'no picture and no certificate': ('check', 'P6', '', [], Ended(1, b'', NO_PICTURE)),
     'a background': (
         'check',
@@ -113,11 +105,10 @@ FORMS = [
 ]
 
 
-@pytest.mark.parametrize('command', ['check', 'verify'])
 @pytest.mark.parametrize('cert', FORMS)
-def test_each_form(program, command, cert, tmp_path):
+def test_each_form(program, cert, tmp_path):
     files = put(tmp_path, picture=PIXEL, cert=cert)
-    assert ended([program.path, command, *files, '--background', '0,0,0']) == Ended(0, YES, b'')
+    assert ended([program.path, 'check', *files, '--background', '0,0,0']) == Ended(0, YES, b'')
 
 
 def test_background_between_the_files(program, tmp_path):

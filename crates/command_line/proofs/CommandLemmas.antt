@@ -32,21 +32,19 @@ pub added : (base sub new : Command) (app : App) (s : Shape) → AddsSubcommand 
 added base sub new app s adds local was is = adds.shape local ∙ ap (λ (x : App). with_subcommand x (shape_of sub)) was ∙ ap (λ (x : Shape). with_subcommand app x) is
 
 -- the program's command with its subcommands
-pub command_made : {E : Type 0} (top work first check second prove third assess fourth verify : Command) (r : Result Command E) → app_of top ≡ bare → AddsSubcommand top work first
+pub command_made : {E : Type 0} (top work first check second prove third assess : Command) (r : Result Command E) → app_of top ≡ bare → AddsSubcommand top work first
     → AddsSubcommand first check second
-    → AddsSubcommand second prove third → AddsSubcommand third assess fourth → IfOk r (AddsSubcommand fourth verify) → IsLocal work → IsLocal check → IsLocal prove → IsLocal assess → IsLocal verify
+    → AddsSubcommand second prove third → IfOk r (AddsSubcommand third assess) → IsLocal work → IsLocal check → IsLocal prove → IsLocal assess
     → shape_of check ≡ check_shape (codes "check") → (forms : ValueParser) × (AreOfCerts forms × (shape_of prove ≡ prove_shape forms))
-    → (kinds : ValueParser) × (AreOfFiles kinds × (shape_of assess ≡ assess_shape kinds)) → shape_of verify ≡ check_shape (codes "verify")
+    → (kinds : ValueParser) × (AreOfFiles kinds × (shape_of assess ≡ assess_shape kinds))
     → (formats : ValueParser) × (AreOfFiles formats × (shape_of work ≡ work_shape formats)) → IfOk r (λ c. (formats : Formats) × (AreFormats formats × (app_of c ≡ program_app formats)))
-command_made top work first check second prove third assess fourth verify (Err e) t a b d u h l m o q n s p k v f = h
-command_made top work first check second prove third assess fourth verify (Ok c) t a b d u h l m o q n s p k v f =
+command_made top work first check second prove third assess (Err e) t a b d u l m o q s p k f = u
+command_made top work first check second prove third assess (Ok c) t a b d u l m o q s p k f =
     let two = with_subcommand (with_subcommand bare (work_shape f.0)) (check_shape (codes "check")) in
-    let four = with_subcommand (with_subcommand two (prove_shape p.0)) (assess_shape k.0) in
     let one = added top work first bare (work_shape f.0) a l t f.1.1 in
     let both = added first check second (with_subcommand bare (work_shape f.0)) (check_shape (codes "check")) b m one s in
     let more = added second prove third two (prove_shape p.0) d o both p.1.1 in
-    let most = added third assess fourth (with_subcommand two (prove_shape p.0)) (assess_shape k.0) u q more k.1.1 in
-    ((f.0, p.0, k.0), ((f.1.0, p.1.0, k.1.0), added fourth verify c four (check_shape (codes "verify")) h n most v))
+    ((f.0, p.0, k.0), ((f.1.0, p.1.0, k.1.0), added third assess c (with_subcommand two (prove_shape p.0)) (assess_shape k.0) u q more k.1.1))
 
 -- the errors by which a parse of the words fails
 abbrev Fails : List Text → Result ArgMatches Error → App → Type 0

@@ -157,19 +157,18 @@ not_help name n =
     (λ e. (bytes_eq-Decides name (codes "help")).1 (sym ((bytes_eq-Decides (codes "help") name).0 e))) n in
     ap (λ (b : Bool). b || false) other
 
-abbrev picked : (u v w x y z : Bool) (a b c d e f : Shape) → Option Shape
-picked u v w x y z a b c d e f = cond u (Some a) (cond v (Some b) (cond w (Some c) (cond x (Some d) (cond y (Some e) (cond z (Some f) None)))))
+abbrev picked : (u v w x z : Bool) (a b c d f : Shape) → Option Shape
+picked u v w x z a b c d f = cond u (Some a) (cond v (Some b) (cond w (Some c) (cond x (Some d) (cond z (Some f) None))))
 
-pick : (u v w x y z : Bool) (a b c d e f : Shape) (words : List Text) → a.name ≡ codes "work" → b.name ≡ codes "check" → c.name ≡ codes "prove" → d.name ≡ codes "assess" → e.name ≡ codes "verify"
-    → z ≡ false → is_some (option_map (λ (s : Shape). rows_at s words) (picked u v w x y z a b c d e f)) ≡ true
-    → IsNamed (option_map (λ (s : Shape). rows_at s words) (picked u v w x y z a b c d e f))
-pick true v w x y z a b c d e f words work check prove assess verify n has = inl work
-pick false true w x y z a b c d e f words work check prove assess verify n has = inr (inl check)
-pick false false true x y z a b c d e f words work check prove assess verify n has = inr (inr (inl prove))
-pick false false false true y z a b c d e f words work check prove assess verify n has = inr (inr (inr (inl assess)))
-pick false false false false true z a b c d e f words work check prove assess verify n has = inr (inr (inr (inr verify)))
-pick false false false false false true a b c d e f words work check prove assess verify n has = absurd (true≢false n)
-pick false false false false false false a b c d e f words work check prove assess verify n has = absurd (true≢false (sym has))
+pick : (u v w x z : Bool) (a b c d f : Shape) (words : List Text) → a.name ≡ codes "work" → b.name ≡ codes "check" → c.name ≡ codes "prove" → d.name ≡ codes "assess"
+    → z ≡ false → is_some (option_map (λ (s : Shape). rows_at s words) (picked u v w x z a b c d f)) ≡ true
+    → IsNamed (option_map (λ (s : Shape). rows_at s words) (picked u v w x z a b c d f))
+pick true v w x z a b c d f words work check prove assess n has = inl work
+pick false true w x z a b c d f words work check prove assess n has = inr (inl check)
+pick false false true x z a b c d f words work check prove assess n has = inr (inr (inl prove))
+pick false false false true z a b c d f words work check prove assess n has = inr (inr (inr assess))
+pick false false false false true a b c d f words work check prove assess n has = absurd (true≢false n)
+pick false false false false false a b c d f words work check prove assess n has = absurd (true≢false (sym has))
 
 entered_named : (formats : Formats) (stop : Option (Text × List Text)) → is_help stop ≡ false → is_some (entered (built (program_app formats)) stop) ≡ true
     → IsNamed (entered (built (program_app formats)) stop)
@@ -179,10 +178,9 @@ entered_named formats (Some p) n has =
     let check = built_leaf (inherited top_noted (check_shape (codes "check"))) in
     let prove = built_leaf (inherited top_noted (prove_shape formats.1)) in
     let assess = built_leaf (inherited top_noted (assess_shape formats.2)) in
-    let verify = built_leaf (inherited top_noted (check_shape (codes "verify"))) in
     let help = built_leaf help_shape in
-    pick (answers_to p.0 (label_of work)) (answers_to p.0 (label_of check)) (answers_to p.0 (label_of prove)) (answers_to p.0 (label_of assess)) (answers_to p.0 (label_of verify))
-    (answers_to p.0 (label_of help)) work check prove assess verify help p.1 refl refl refl refl refl (not_help p.0 n) has
+    pick (answers_to p.0 (label_of work)) (answers_to p.0 (label_of check)) (answers_to p.0 (label_of prove)) (answers_to p.0 (label_of assess))
+    (answers_to p.0 (label_of help)) work check prove assess help p.1 refl refl refl refl (not_help p.0 n) has
 
 -- the words name one of the program's subcommands
 pub names_one : (formats : Formats) (words : List Text) → fault_of (program_app formats) words ≡ [] → IsNamed (subcommand_of (program_app formats) words)

@@ -20,8 +20,7 @@ module _ (text : String Global) where
   not_entered (Some (name, rows)) (inl is) asked = asked.work rows (ap (λ (n : Text). Some (n, rows)) is)
   not_entered (Some (name, rows)) (inr (inl is)) asked = asked.check rows (ap (λ (n : Text). Some (n, rows)) is)
   not_entered (Some (name, rows)) (inr (inr (inl is))) asked = asked.prove rows (ap (λ (n : Text). Some (n, rows)) is)
-  not_entered (Some (name, rows)) (inr (inr (inr (inl is)))) asked = asked.assess rows (ap (λ (n : Text). Some (n, rows)) is)
-  not_entered (Some (name, rows)) (inr (inr (inr (inr is)))) asked = asked.verify rows (ap (λ (n : Text). Some (n, rows)) is)
+  not_entered (Some (name, rows)) (inr (inr (inr is))) asked = asked.assess rows (ap (λ (n : Text). Some (n, rows)) is)
 
   shown_by : (kinds : Kinds) (formats : Formats) (words : List Text) → IsTaskBy kinds (program_app formats) words (Ok (Help text)) → asks_alone words ≡ true
   shown_by [] formats words h = absurd (not_entered (subcommand_of (program_app formats) words) h.0 h.1)

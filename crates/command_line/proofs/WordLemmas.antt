@@ -74,7 +74,6 @@ asked_work entered rows r name is asked = record {
   check = λ there e. absurd (other_name entered (codes "work") (codes "check") name refl there e);
   prove = λ there e. absurd (other_name entered (codes "work") (codes "prove") name refl there e);
   assess = λ there e. absurd (other_name entered (codes "work") (codes "assess") name refl there e);
-  verify = λ there e. absurd (other_name entered (codes "work") (codes "verify") name refl there e);
 }
 
 pub asked_check : (entered : Option (Text × List Row)) (rows : List Row) (r : Result Task ProgramFault) → option_map (λ p. p.0) entered ≡ Some (codes "check")
@@ -84,7 +83,6 @@ asked_check entered rows r name is asked = record {
   check = λ there e. subst (λ (x : List Row). IsCheck (given_in x) r) (some_rows rows there (sym is ∙ ap rows_in e)) asked;
   prove = λ there e. absurd (other_name entered (codes "check") (codes "prove") name refl there e);
   assess = λ there e. absurd (other_name entered (codes "check") (codes "assess") name refl there e);
-  verify = λ there e. absurd (other_name entered (codes "check") (codes "verify") name refl there e);
 }
 
 pub asked_prove : (entered : Option (Text × List Row)) (rows : List Row) (r : Result Task ProgramFault) → option_map (λ p. p.0) entered ≡ Some (codes "prove")
@@ -94,7 +92,6 @@ asked_prove entered rows r name is asked = record {
   check = λ there e. absurd (other_name entered (codes "prove") (codes "check") name refl there e);
   prove = λ there e. subst (λ (x : List Row). IsProve (given_in x) r) (some_rows rows there (sym is ∙ ap rows_in e)) asked;
   assess = λ there e. absurd (other_name entered (codes "prove") (codes "assess") name refl there e);
-  verify = λ there e. absurd (other_name entered (codes "prove") (codes "verify") name refl there e);
 }
 
 pub asked_assess : (entered : Option (Text × List Row)) (rows : List Row) (r : Result Task ProgramFault) → option_map (λ p. p.0) entered ≡ Some (codes "assess")
@@ -104,17 +101,6 @@ asked_assess entered rows r name is asked = record {
   check = λ there e. absurd (other_name entered (codes "assess") (codes "check") name refl there e);
   prove = λ there e. absurd (other_name entered (codes "assess") (codes "prove") name refl there e);
   assess = λ there e. subst (λ (x : List Row). IsAssess (given_in x) r) (some_rows rows there (sym is ∙ ap rows_in e)) asked;
-  verify = λ there e. absurd (other_name entered (codes "assess") (codes "verify") name refl there e);
-}
-
-pub asked_verify : (entered : Option (Text × List Row)) (rows : List Row) (r : Result Task ProgramFault) → option_map (λ p. p.0) entered ≡ Some (codes "verify")
-    → option_map (λ p. p.1) entered ≡ Some rows → IsCheck (given_in rows) r → IsAsked entered r
-asked_verify entered rows r name is asked = record {
-  work = λ there e. absurd (other_name entered (codes "verify") (codes "work") name refl there e);
-  check = λ there e. absurd (other_name entered (codes "verify") (codes "check") name refl there e);
-  prove = λ there e. absurd (other_name entered (codes "verify") (codes "prove") name refl there e);
-  assess = λ there e. absurd (other_name entered (codes "verify") (codes "assess") name refl there e);
-  verify = λ there e. subst (λ (x : List Row). IsCheck (given_in x) r) (some_rows rows there (sym is ∙ ap rows_in e)) asked;
 }
 
 -- ---- numbers

@@ -133,8 +133,7 @@ Formats = ValueParser × ValueParser × ValueParser
 abbrev pub program_app : Formats → App
 program_app formats = record {
   top = record top_shape { is_leaf = false };
-  subs = work_shape formats.0 ∷ check_shape (codes "check") ∷ prove_shape formats.1 ∷ assess_shape formats.2
-      ∷ check_shape (codes "verify") ∷ [];
+  subs = work_shape formats.0 ∷ check_shape (codes "check") ∷ prove_shape formats.1 ∷ assess_shape formats.2 ∷ [];
 }
 
 -- one of these names is taken

@@ -183,15 +183,14 @@ IsNamed None = ⊥
 IsNamed (Some entered) =
     (entered.0 ≡ codes "work")
     ⊎ ((entered.0 ≡ codes "check") ⊎ ((entered.0 ≡ codes "prove")
-    ⊎ ((entered.0 ≡ codes "assess") ⊎ (entered.0 ≡ codes "verify"))))
+    ⊎ (entered.0 ≡ codes "assess")))
 
--- what a subcommand that was entered asks for, by its name and its rows; `verify` is the old name of `check`
+-- what a subcommand that was entered asks for, by its name and its rows
 pub record IsAsked (entered : Option (Text × List Row)) (r : Result Task ProgramFault) : Type 0 where
   pub work : (rows : List Row) → entered ≡ Some (codes "work", rows) → IsWork (given_in rows) r
   pub check : (rows : List Row) → entered ≡ Some (codes "check", rows) → IsCheck (given_in rows) r
   pub prove : (rows : List Row) → entered ≡ Some (codes "prove", rows) → IsProve (given_in rows) r
   pub assess : (rows : List Row) → entered ≡ Some (codes "assess", rows) → IsAssess (given_in rows) r
-  pub verify : (rows : List Row) → entered ≡ Some (codes "verify", rows) → IsCheck (given_in rows) r
 
 -- ---- words that are not taken
 

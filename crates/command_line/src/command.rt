@@ -40,12 +40,10 @@ fn command<'a>(alloc: Global) -> Result<Command<'a>, AllocError>
     let check = check_command(alloc, "check", CHECK)?;
     let prove = prove_command(alloc)?;
     let assess = assess_command(alloc)?;
-    let verify = check_command(alloc, "verify", VERIFY)?;
     let command = top.subcommand(work)?;
     let command = command.subcommand(check)?;
     let command = command.subcommand(prove)?;
-    let command = command.subcommand(assess)?;
-    command.subcommand(verify)
+    command.subcommand(assess)
 }
 
 fn named<'a>(alloc: Global) -> Result<Command<'a>, AllocError>
@@ -96,10 +94,8 @@ fn file_command<'a>(alloc: Global) -> Result<Command<'a>, AllocError>
         ))
 }
 
-// What help says of the command `check`, and of its old name.
+// What help says of the command `check`.
 const CHECK: &str = "Checks a certificate: whether the picture is the only one with its clues";
-
-const VERIFY: &str = "The old name of check";
 
 // What help says of the file of givens: of a check, of a certificate that is made, and of an assessment.
 const CHECK_GIVENS: &str =

@@ -92,10 +92,6 @@ fn task_of<'a>(alloc: Global, matches: &ArgMatches<'a>) -> Result<Task<'a>, Prog
     if let Some(matches) = matches.subcommand_matches("assess") {
         return assess_of(alloc, matches);
     }
-    // The old name of `check`.
-    if let Some(matches) = matches.subcommand_matches("verify") {
-        return check_of(matches);
-    }
     Ok(Task::Clues)
 }
 

@@ -1,7 +1,7 @@
 use Rattle.std.proofs.Common.{refl, subst, sym, ◌∙◌}
 use Rattle.clap.specs.Words.{found_of, rows_of, subcommand_rows_of}
 use Rattle.command_line.specs.Words.{Given, IsAssess, IsCheck, IsProve, IsWork}
-use Rattle.command_line.proofs.WordLemmas.{asked_assess, asked_check, asked_prove, asked_verify, asked_work, given_same, name_is}
+use Rattle.command_line.proofs.WordLemmas.{asked_assess, asked_check, asked_prove, asked_work, given_same, name_is}
 use Rattle.command_line.proofs.words.task_of.Goals as goal
 
 pub returns-in-Some-clause-asked : goal.returns-in-Some-clause-asked
@@ -34,12 +34,3 @@ returns-in-Some-subcommand_matches-3-clause-asked c =
     let f = found_of s.matches.now in
     let r = c.assess_of.result in
     asked_assess (subcommand_rows_of m) (rows_of f) r (sym (name_is m) ∙ s.ensures.found.0 refl) s.ensures.rows (subst (λ (g : Given). IsAssess g r) (given_same f) c.assess_of.ensures.assess)
-
-pub returns-in-Some-subcommand_matches-4-clause-asked : goal.returns-in-Some-subcommand_matches-4-clause-asked
-returns-in-Some-subcommand_matches-4-clause-asked c =
-    let m = c.args.matches.now in
-    let s = c.in-Some-subcommand_matches-4 in
-    let f = found_of s.matches.now in
-    let r = c.check_of-in-Some-subcommand_matches-4.result in
-    asked_verify (subcommand_rows_of m) (rows_of f) r (sym (name_is m) ∙ s.ensures.found.0 refl) s.ensures.rows
-    (subst (λ (g : Given). IsCheck g r) (given_same f) c.check_of-in-Some-subcommand_matches-4.ensures.check)
