@@ -504,6 +504,7 @@ export const EN = /** @type {const} */ ({
   'view.withoutGreenCones': 'Without green cones (deuteranopia)',
   'view.withoutBlueCones': 'Without blue cones (tritanopia)',
   'view.nameLetter': '“{name}” ({letter})',
+  'view.onlyCellsOfStep': 'Only cells of the step change',
   // ---- play
   'play.lineSays': '{lineName}: {cells}',
   'play.areColour': '{places} {count|is|are} {colour}',
@@ -575,6 +576,15 @@ export const EN = /** @type {const} */ ({
   'play.selectPart': 'Select a part, such as a face, to see when a solver knows half of it.',
   'play.halfKnown': 'Half of the selection is known at {share}%.',
   'play.halfOpen': 'The path leaves more than half of the selection open.',
+  'play.curve': 'Cells left, line by line',
+  'play.cliffs': 'Cliffs',
+  'play.cliffAt': 'Step {at}',
+  'play.cliffSays': 'Step {at}, {why}. {step}',
+  'play.cliffGuess': 'a guess',
+  'play.cliffWait': 'behind {lines|# line|# lines} that {lines|settles|settle} no cell',
+  'play.cliffHardest': 'the hardest step',
+  'play.softenHere': 'Soften here',
+  'play.softenHint': 'Looks for repaints of the cells in the lines of this step alone',
   // ---- library
   'library.browsersStorageFull': 'The browser’s storage is full',
   'library.browsersStorageLate': 'The browser’s storage does not open',

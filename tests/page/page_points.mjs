@@ -6,7 +6,7 @@ import {fileURLToPath} from 'node:url';
 import {clean, downloaded, examples, fresh, hard, isKept, isOpen} from './page_hands.mjs';
 import {Hands} from './page_inputs.mjs';
 import {choosingPoint, palettesPoint, slidingPoint, visionPoint} from './page_coming.mjs';
-import {filmPoint} from './page_course.mjs';
+import {curvePoint, filmPoint} from './page_course.mjs';
 import {frenchPoint, germanPoint, mirroredPoint} from './page_languages.mjs';
 import {aimPoint, firstPoint, mendingPoint, walkingPoint} from './page_mending.mjs';
 import {othersPoint, printPoint} from './page_out.mjs';
@@ -255,7 +255,7 @@ async function large(hands) {
   if (hands.byKeys)
     await page.press('z');
   else
-    await hands.press('#quick [data-action="fit"]');
+    await hands.press('#zoom [data-action="fit"]');
   await page.until(
       (side) => sheet.geometry.cell / sheet.geometry.scale === side, 2000 * SLACK, first.side
   );
@@ -375,6 +375,7 @@ const POINTS = {
   'what a repair may change': limitsPoint,
   'the solving path': walkingPoint,
   'film strip': filmPoint,
+  'difficulty curve': curvePoint,
   'out of the page': wayOut,
   'what others get': othersPoint,
   'print for books': printPoint,
