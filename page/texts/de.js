@@ -531,6 +531,12 @@ export const DE =
           'view.withoutBlueCones': 'Ohne Blauzapfen (Tritanopie)',
           'view.nameLetter': '„{name}“ ({letter})',
           'view.onlyCellsOfStep': 'Nur Felder des Schritts ändern sich',
+          'view.whatCanTurn': 'Was sich drehen kann',
+          'view.turnNext': 'Nächste Stelle drehen',
+          'view.cellsCanTurn': '{cells|Dieses # Feld kann|Diese # Felder können} sich drehen.',
+          'view.placesCanTurn':
+              '{places|# Stelle kann|# Stellen können} sich drehen, jede für sich: mindestens {pictures|# Bild|# Bilder}.',
+          'view.turnPlace': '{place}: {cells|# Feld|# Felder}',
           // ---- play
           'play.lineSays': '{lineName}: {cells}',
           'play.areColour': '{places} {count|ist|sind} {colour}',

@@ -505,6 +505,12 @@ export const EN = /** @type {const} */ ({
   'view.withoutBlueCones': 'Without blue cones (tritanopia)',
   'view.nameLetter': '“{name}” ({letter})',
   'view.onlyCellsOfStep': 'Only cells of the step change',
+  'view.whatCanTurn': 'What can turn',
+  'view.turnNext': 'Turn the next place',
+  'view.cellsCanTurn': 'These {cells|# cell|# cells} can turn.',
+  'view.placesCanTurn':
+      '{places|# place|# places} can turn, each by itself: at least {pictures|# picture|# pictures}.',
+  'view.turnPlace': '{place}: {cells|# cell|# cells}',
   // ---- play
   'play.lineSays': '{lineName}: {cells}',
   'play.areColour': '{places} {count|is|are} {colour}',

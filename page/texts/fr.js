@@ -517,6 +517,13 @@ export const FR =
       'view.withoutBlueCones': 'Sans cônes bleus (tritanopie)',
       'view.nameLetter': '« {name} » ({letter})',
       'view.onlyCellsOfStep': 'Seules les cases du pas changent',
+      'view.whatCanTurn': 'Ce qui peut tourner',
+      'view.turnNext': 'Tourner l’endroit suivant',
+      'view.cellsCanTurn':
+          '{cells|Cette # case peut|Ces # cases peuvent|Ces # cases peuvent} tourner.',
+      'view.placesCanTurn':
+          '{places|# endroit peut|# endroits peuvent|# endroits peuvent} tourner, chacun pour soi : au moins {pictures|# image|# images|# images}.',
+      'view.turnPlace': '{place} : {cells|# case|# cases|# cases}',
       // ---- play
       'play.lineSays': '{lineName} : {cells}',
       'play.areColour': '{places} {count|est|sont|sont} en {colour}',

@@ -17,6 +17,7 @@ import {smallPoint, typingPoint} from './page_marks.mjs';
 import {limitsPoint, placesPoint} from './page_repairs.mjs';
 import {linkPoint, offlinePoint, playerPoint, severalPoint} from './page_sharing.mjs';
 import {SIZES, SLACK, noise, ppmOf} from './page_trial.mjs';
+import {turningPoint} from './page_turning.mjs';
 import {pause} from './page_browser.mjs';
 
 const PAIR = ['a.....', '.a....', '......', '...aaa', '...aaa', '...aaa'];
@@ -376,6 +377,7 @@ const POINTS = {
   'the solving path': walkingPoint,
   'film strip': filmPoint,
   'difficulty curve': curvePoint,
+  'what can turn': turningPoint,
   'out of the page': wayOut,
   'what others get': othersPoint,
   'print for books': printPoint,
