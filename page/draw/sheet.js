@@ -47,6 +47,7 @@ class Sheet {
     this.held = null;        // a line that is dragged: {axis, word, from, to}
     this.boxes = [];         // rectangles over the cells: {top, left, bottom, right, shape}
     this.places = [];        // where line solving stalls: groups of cells, by their places
+    this.turns = [];         // what can turn: groups of cells, by their places
     this.framed = [];        // the places of cells that a proposal changes, while it is shown
     this.symmetry = 'none';  // of the pens, as document/symmetry.js has it
     this.underlay = null;    // an image to trace

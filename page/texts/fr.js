@@ -516,6 +516,14 @@ export const FR =
       'view.withoutGreenCones': 'Sans cônes verts (deutéranopie)',
       'view.withoutBlueCones': 'Sans cônes bleus (tritanopie)',
       'view.nameLetter': '« {name} » ({letter})',
+      'view.onlyCellsOfStep': 'Seules les cases du pas changent',
+      'view.whatCanTurn': 'Ce qui peut tourner',
+      'view.turnNext': 'Tourner l’endroit suivant',
+      'view.cellsCanTurn':
+          '{cells|Cette # case peut|Ces # cases peuvent|Ces # cases peuvent} tourner.',
+      'view.placesCanTurn':
+          '{places|# endroit peut|# endroits peuvent|# endroits peuvent} tourner, chacun pour soi : au moins {pictures|# image|# images|# images}.',
+      'view.turnPlace': '{place} : {cells|# case|# cases|# cases}',
       // ---- play
       'play.lineSays': '{lineName} : {cells}',
       'play.areColour': '{places} {count|est|sont|sont} en {colour}',
@@ -551,7 +559,8 @@ export const FR =
       'play.marksWhatHint': 'Marque ce que l’aide indique',
       'play.startOver': 'Recommencer',
       'play.startedOver': 'Toutes les marques sont effacées. « Annuler » les rétablit.',
-      'play.howTo': 'Les nombres à côté d’une ligne ou d’une colonne sont ses blocs, dans l’ordre. Entre deux blocs d’une même couleur, il y a au moins une case de fond ; les autres peuvent se toucher.\nChoisissez une couleur et glissez le long d’une ligne ou d’une colonne. Si la première case l’a déjà, vous effacez.\nLa croix marque des cases comme fond, de même que le bouton droit de la souris ou la touche X. Ce n’est pas nécessaire.\nLa gomme efface des marques.\nDeux doigts déplacent l’image, et les écarter ou les rapprocher zoome.\nUne couleur qui se distingue à peine des cases vides reçoit un bord. L’image résolue est montrée sans bords ni croix.\n« Vérifier » montre quelles marques sont fausses.\n« Aide-moi » nomme une ligne utile ; encore : ses cases ; encore : pourquoi. « Faites-le » les marque.\n« Recommencer » efface toutes les marques ; « Annuler » les rétablit.\nVos marques restent dans ce navigateur jusqu’à ce que la grille soit résolue.',
+      'play.howTo':
+          'Les nombres à côté d’une ligne ou d’une colonne sont ses blocs, dans l’ordre. Entre deux blocs d’une même couleur, il y a au moins une case de fond ; les autres peuvent se toucher.\nChoisissez une couleur et glissez le long d’une ligne ou d’une colonne. Si la première case l’a déjà, vous effacez.\nLa croix marque des cases comme fond, de même que le bouton droit de la souris ou la touche X. Ce n’est pas nécessaire.\nLa gomme efface des marques.\nDeux doigts déplacent l’image, et les écarter ou les rapprocher zoome.\nUne couleur qui se distingue à peine des cases vides reçoit un bord. L’image résolue est montrée sans bords ni croix.\n« Vérifier » montre quelles marques sont fausses.\n« Aide-moi » nomme une ligne utile ; encore : ses cases ; encore : pourquoi. « Faites-le » les marque.\n« Recommencer » efface toutes les marques ; « Annuler » les rétablit.\nVos marques restent dans ce navigateur jusqu’à ce que la grille soit résolue.',
       'play.walkThrough': 'Pas à pas',
       'play.showsSolution':
           'Cela montre la solution, étape par étape. Vos marques reviennent à la fin.',
@@ -590,6 +599,15 @@ export const FR =
           'Sélectionnez une partie, un visage par exemple, pour voir quand la moitié en est connue.',
       'play.halfKnown': 'La moitié de la sélection est connue à {share} %.',
       'play.halfOpen': 'Le chemin laisse ouverte plus de la moitié de la sélection.',
+      'play.curve': 'Cases restantes, ligne par ligne',
+      'play.cliffs': 'Falaises',
+      'play.cliffAt': 'Pas {at}',
+      'play.cliffSays': 'Pas {at}, {why}. {step}',
+      'play.cliffGuess': 'une supposition',
+      'play.cliffWait': 'après {lines|# ligne|# lignes|# lignes} sans case déterminée',
+      'play.cliffHardest': 'le pas le plus difficile',
+      'play.softenHere': 'Adoucir ici',
+      'play.softenHint': 'Cherche des retouches dans les seules cases des lignes de ce pas',
       // ---- library
       'library.browsersStorageFull': 'La mémoire du navigateur est pleine',
       'library.browsersStorageLate': 'La mémoire du navigateur ne s’ouvre pas',
