@@ -200,6 +200,15 @@ export const FR =
       'view.larger': 'Cases plus grandes',
       'view.smaller': 'Cases plus petites',
       'view.fit': 'Ajuster',
+      'view.safeDots': 'Montrer les cases à risque',
+      'view.safeDotsHint':
+          'Tant que la grille n’a qu’une solution. Un point près du pointeur : la couleur choisie y laisserait plusieurs solutions, ou les lignes ne suffiraient plus. Un anneau : non décidé.',
+      'view.safeOnly': 'Ne peindre que les cases sûres',
+      'view.safeOnlyHint': 'Ou maintenir Ctrl à la fin d’un trait. Les autres cases restent.',
+      'view.safeLeft':
+          '{cells|# case n’a pas été peinte|# de cases n’ont pas été peintes|# cases n’ont pas été peintes} : pas sûr.',
+      'view.safeNeedsOne':
+          'Rien n’a été peint : le pinceau sûr demande une grille à solution unique.',
       'view.lettersCellsClues': 'Lettres dans les cases et les indices',
       'view.pictureOnly': 'Image sans grille ni indices',
       'view.light': 'Clair',
@@ -551,7 +560,8 @@ export const FR =
       'play.marksWhatHint': 'Marque ce que l’aide indique',
       'play.startOver': 'Recommencer',
       'play.startedOver': 'Toutes les marques sont effacées. « Annuler » les rétablit.',
-      'play.howTo': 'Les nombres à côté d’une ligne ou d’une colonne sont ses blocs, dans l’ordre. Entre deux blocs d’une même couleur, il y a au moins une case de fond ; les autres peuvent se toucher.\nChoisissez une couleur et glissez le long d’une ligne ou d’une colonne. Si la première case l’a déjà, vous effacez.\nLa croix marque des cases comme fond, de même que le bouton droit de la souris ou la touche X. Ce n’est pas nécessaire.\nLa gomme efface des marques.\nDeux doigts déplacent l’image, et les écarter ou les rapprocher zoome.\nUne couleur qui se distingue à peine des cases vides reçoit un bord. L’image résolue est montrée sans bords ni croix.\n« Vérifier » montre quelles marques sont fausses.\n« Aide-moi » nomme une ligne utile ; encore : ses cases ; encore : pourquoi. « Faites-le » les marque.\n« Recommencer » efface toutes les marques ; « Annuler » les rétablit.\nVos marques restent dans ce navigateur jusqu’à ce que la grille soit résolue.',
+      'play.howTo':
+          'Les nombres à côté d’une ligne ou d’une colonne sont ses blocs, dans l’ordre. Entre deux blocs d’une même couleur, il y a au moins une case de fond ; les autres peuvent se toucher.\nChoisissez une couleur et glissez le long d’une ligne ou d’une colonne. Si la première case l’a déjà, vous effacez.\nLa croix marque des cases comme fond, de même que le bouton droit de la souris ou la touche X. Ce n’est pas nécessaire.\nLa gomme efface des marques.\nDeux doigts déplacent l’image, et les écarter ou les rapprocher zoome.\nUne couleur qui se distingue à peine des cases vides reçoit un bord. L’image résolue est montrée sans bords ni croix.\n« Vérifier » montre quelles marques sont fausses.\n« Aide-moi » nomme une ligne utile ; encore : ses cases ; encore : pourquoi. « Faites-le » les marque.\n« Recommencer » efface toutes les marques ; « Annuler » les rétablit.\nVos marques restent dans ce navigateur jusqu’à ce que la grille soit résolue.',
       'play.walkThrough': 'Pas à pas',
       'play.showsSolution':
           'Cela montre la solution, étape par étape. Vos marques reviennent à la fin.',
