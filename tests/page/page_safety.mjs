@@ -84,3 +84,14 @@ test('each cell of a stroke is safe after those before it', async () => {
     assert.deepEqual(found, wanted);
   }
 });
+
+test('what is not decided is a mark of its own, but where lines are to solve it', async () => {
+  const say = async (...lines) =>
+      lines.map((line) => ({word: line === 'verdict' ? 'undecided' : 'ok'}));
+  for (const [goal, mark] of [['unique', 'undecided'], ['lines', 'breaks']]) {
+    const marks = [];
+    const asked = {places: [1], letter: 'a', goal};
+    await askMarks({say}, {picture: ['..'], columns: 2}, asked, (some) => marks.push(...some));
+    assert.deepEqual(marks, [[1, mark]]);
+  }
+});
