@@ -6,6 +6,7 @@ import {isPossible} from '../document/symmetry.js';
 import {CanvasSurface} from './surface.js';
 
 const MOST_TURNING = 48;  // cells of a ring
+const WARNED = 0.75;      // how much is seen of a dot
 
 /**
  * Draws a line that is seen on any colour: white, and then less wide in an ink, which may be
@@ -158,6 +159,27 @@ function drawTurns(pen, sheet) {
   drawTwice(pen, at.scale, [4, 2], {ink: sheet.inks.alarm}, () => pen.stroke(path));
 }
 
+// A faint dot in each cell where painting would cost something, and a ring where that is not
+// decided.
+function drawWarned(pen, sheet) {
+  const {geometry: at, state, warned, inks} = sheet;
+  const radius = Math.max(1.5 * at.scale, at.cell / 8);
+  pen.globalAlpha = WARNED;
+  for (const [place, mark] of warned) {
+    const [x, y] = [place % state.columns, Math.floor(place / state.columns)].map(
+        (line, axis) => (axis ? at.y(line) : at.x(line)) + at.cell / 2
+    );
+    pen.beginPath();
+    pen.arc(x, y, radius, 0, 2 * Math.PI);
+    Object.assign(pen, {lineWidth: 3 * at.scale, strokeStyle: '#fff', fillStyle: inks.alarm});
+    pen.stroke();
+    if (mark === 'breaks') pen.fill();
+    Object.assign(pen, {lineWidth: at.scale, strokeStyle: inks.alarm});
+    pen.stroke();
+  }
+  pen.globalAlpha = 1;
+}
+
 // The axes of symmetric pens; quarter turns have a ring about the middle.
 function drawAxes(pen, sheet) {
   const {geometry: at, state, symmetry} = sheet;
@@ -188,6 +210,7 @@ export function drawMarks(pen, sheet) {
   if (sheet.symmetry !== 'none' && isPossible(sheet.symmetry, sheet.state)) drawAxes(pen, sheet);
   drawPlaces(pen, sheet);
   if (sheet.turns.length && sheet.hatching === 'differing' && !at.isBare) drawTurns(pen, sheet);
+  drawWarned(pen, sheet);
   for (const index of sheet.framed)
     ringAround(
         pen,

@@ -44,9 +44,7 @@ export function cliffsOf(walk) {
   for (const at of waiting.slice(0, MOST_WAITS))
     add(at, phrase('play.cliffWait', {lines: waits[at]}));
   add(walk.hardest - 1, phrase('play.cliffHardest'));
-  return [...found].map(
-                       ([at, why]) => ({at: at + 1, why})
-  ).sort((one, other) => one.at - other.at);
+  return [...found].map(([at, why]) => ({at: at + 1, why})).sort((one, other) => one.at - other.at);
 }
 
 /** Draws the curve of cells left, the cliffs on it, and the step that is shown. */

@@ -193,6 +193,13 @@ export const EN = /** @type {const} */ ({
   'view.larger': 'Larger cells',
   'view.smaller': 'Smaller cells',
   'view.fit': 'Fit',
+  'view.safeDots': 'Mark unsafe cells',
+  'view.safeDotsHint':
+      'While the puzzle has one solution. A dot near the pointer: the chosen colour there would leave more, or need more than lines. A ring: not decided.',
+  'view.safeOnly': 'Paint only safe cells',
+  'view.safeOnlyHint': 'Or hold Ctrl when a stroke ends. The other cells stay.',
+  'view.safeLeft': '{cells|# cell was|# cells were} not painted, as that is not safe.',
+  'view.safeNeedsOne': 'Nothing was painted: the safe brush needs a puzzle with one solution.',
   'view.lettersCellsClues': 'Letters in cells and clues',
   'view.pictureOnly': 'Picture without grid and clues',
   'view.light': 'Light',
@@ -968,8 +975,7 @@ export const EN = /** @type {const} */ ({
   'start.dropFileHerePaste':
       'Drop files here, paste a picture (Ctrl+V), or choose files. Several are listed in a table with their verdicts.',
   'start.tapToChoose': 'Tap “Choose files …”. Several are listed in a table with their verdicts.',
-  'start.pngJpegGifWebp':
-      'An image (PNG, JPEG, GIF, WebP, BMP, AVIF, SVG) becomes a puzzle. PPM, PBM, .non and Web Paint-by-Number’s XML open as they are. The pictures of a saved zip are added to the library, and a certificate is checked against the open picture.',
+  'start.pngJpegGifWebp': 'An image (PNG, JPEG, GIF, WebP, BMP, AVIF, SVG) becomes a puzzle. PPM, PBM, .non and Web Paint-by-Number’s XML open as they are. The pictures of a saved zip are added to the library, and a certificate is checked against the open picture.',
   'start.chooseFile': 'Choose files …',
   'start.balloon': 'balloon',
   'start.heart': 'heart',

@@ -28,22 +28,22 @@ const turning = {
   waits: 0
 };
 const isAmbiguous = () => bench.state?.verdict.word === 'ambiguous' && bench.state.verdict.other;
-const isOfThis = () => turning.of !== null && bench.state !== null &&
-    sameBenchPart(turning.of, bench.state);
+const isOfThis = () =>
+    turning.of !== null && bench.state !== null && sameBenchPart(turning.of, bench.state);
 
-const placesIn = ({picture, columns}, other) => turningPlaces(picture, other).map((cells) => ({
-  cells,
-  letters: cells.map((place) => other[Math.floor(place / columns)][place % columns])
-}));
+const placesIn = ({picture, columns}, other) => turningPlaces(
+                                                    picture, other
+).map((cells) => ({
+        cells,
+        letters: cells.map((place) => other[Math.floor(place / columns)][place % columns])
+      }));
 
 // ---- what is shown
 
 function turnsText() {
   const {places} = turning;
   if (places.length === 1) return phrase('view.cellsCanTurn', {cells: places[0].cells.length});
-  return phrase(
-      'view.placesCanTurn', {places: places.length, pictures: 2 ** places.length}
-  );
+  return phrase('view.placesCanTurn', {places: places.length, pictures: 2 ** places.length});
 }
 
 function showTurns() {
@@ -51,14 +51,15 @@ function showTurns() {
   sheet.turns = places.map(({cells}) => cells);
   $('turns').hidden = places.length === 0;
   $('turns-said').textContent = places.length ? turnsText() : '';
-  $('turns-list').replaceChildren(...places.map(
-      ({cells}, at) => buttonOf(
-          '',
-          phrase('view.turnPlace', {place: placeText(of, cells[0]), cells: cells.length}),
-          () => turn(turning.shown === at ? -1 : at),
-          {'aria-pressed': turning.shown === at}
-      )
-  ));
+  $('turns-list')
+      .replaceChildren(...places.map(
+          ({cells}, at) => buttonOf(
+              '',
+              phrase('view.turnPlace', {place: placeText(of, cells[0]), cells: cells.length}),
+              () => turn(turning.shown === at ? -1 : at),
+              {'aria-pressed': turning.shown === at}
+          )
+      ));
   sheet.redraw();
 }
 
@@ -93,9 +94,9 @@ const found = (state, first) => searches.job('', SECONDS, async (copy) => {
   const [all, given] = [[...first], new Set(state.givens)];
   copy.found = all;
   for (let fresh = first; fresh.length && all.length < MOST_PLACES;) {
-    const lines = placesOfLines(fresh.flatMap(({cells}) => cells), state).filter(
-        (place) => !given.has(place)
-    );
+    const lines = placesOfLines(
+                      fresh.flatMap(({cells}) => cells), state
+    ).filter((place) => !given.has(place));
     for (const place of lines) given.add(place);
     await copy.say(...lines.map((place) => `pin ${placeOf(state, place)}`));
     const [, verdict] = await copy.say(`allow ${SPLITS}`, 'verdict');
@@ -153,7 +154,11 @@ export function showTurningPanel() {
       {id: 'turns', hidden: true},
       make('h3', {}, phrase('view.whatCanTurn')),
       make('p', {id: 'turns-said', role: 'status'}),
-      make('div', {id: 'turns-list', class: 'group', role: 'group',
-                   'aria-label': phrase('view.whatCanTurn')})
+      make('div', {
+        id: 'turns-list',
+        class: 'group',
+        role: 'group',
+        'aria-label': phrase('view.whatCanTurn')
+      })
   ));
 }

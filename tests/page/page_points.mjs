@@ -17,6 +17,7 @@ import {stillPoint} from './page_lasting.mjs';
 import {smallPoint, typingPoint} from './page_marks.mjs';
 import {limitsPoint, placesPoint} from './page_repairs.mjs';
 import {linkPoint, offlinePoint, playerPoint, severalPoint} from './page_sharing.mjs';
+import {safePoint} from './page_safe.mjs';
 import {SIZES, SLACK, noise, ppmOf} from './page_trial.mjs';
 import {segmentsPoint} from './page_two.mjs';
 import {turningPoint} from './page_turning.mjs';
@@ -386,6 +387,7 @@ const POINTS = {
   links: linkPoint,
   'two colours': segmentsPoint,
   'a book': bookPoint,
+  'the safe brush': safePoint,
   'the player': playerPoint,
   'several files': severalPoint,
   offline: offlinePoint,

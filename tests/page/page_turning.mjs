@@ -4,13 +4,8 @@ import {isOpen} from './page_hands.mjs';
 import {SLACK, ppmOf} from './page_trial.mjs';
 
 // Two corners, each of which leans either way by itself: four pictures.
-const APART = [
-  'a.........',
-  '.a........',
-  ...Array(6).fill('.'.repeat(10)),
-  '.......b..',
-  '........b.'
-];
+const APART =
+    ['a.........', '.a........', ...Array(6).fill('.'.repeat(10)), '.......b..', '........b.'];
 // One of them: row 1 and 2, columns 1 and 2.
 const PAIR = ['a.....', '.a....', '......', '...aaa', '...aaa', '...aaa'];
 
@@ -18,7 +13,9 @@ const says = (page, wanted) => page.until(
     (text) => document.getElementById('turns-said').textContent === text, 30000 * SLACK, wanted
 );
 const shown = (page) => page.run(
-    () => bench.state.picture.map((row, at) => [...row].map((_, col) => sheet.letterAt(at, col)).join(''))
+    () => bench.state.picture.map(
+        (row, at) => [...row].map((_, col) => sheet.letterAt(at, col)).join('')
+    )
 );
 
 /**
