@@ -6,7 +6,7 @@ import {clamp} from '../base/words.js';
 
 const SMALLEST = 3;  // a cell's side in the page's pixels
 const LARGEST = 64;
-const MARGIN = 6;
+const MARGIN = 16;  // the page's pixels around a picture that is fitted
 // blocks of a clue for which a picture that is fitted has room, however short its clues and lines
 // are
 const FEW = 4;
@@ -116,15 +116,15 @@ export class Geometry {
    * three pixels are too many else.
    */
   fitting() {
+    const margin = MARGIN * this.scale;
     for (let side = LARGEST; side >= SMALLEST; side--) {
       const cell = Math.round(side * this.scale);
       const {left, top} = this.room(cell);
-      if (left + this.columns * cell + MARGIN <= this.width &&
-          top + this.rows * cell + MARGIN <= this.height)
+      if (left + this.columns * cell + margin <= this.width &&
+          top + this.rows * cell + margin <= this.height)
         return {cell, isFolded: false};
     }
     const {left, top} = this.edges();
-    const margin = MARGIN * this.scale;
     const most = Math.min(
         (this.width - left - margin) / this.columns, (this.height - top - margin) / this.rows
     );
@@ -159,11 +159,18 @@ export class Geometry {
     Object.assign(this, this.isFolded ? this.edges() : this.room(this.cell));
     this.font = this.fontFor(this.cell);
     this.pitch = this.pitchFor(this.cell);
-    // A picture smaller than its room stands in the middle, somewhat above it.
-    const free = (room, length) => Math.max(0, room - length - MARGIN);
+    // A picture smaller than its room stands in the middle with the clues that it has, somewhat
+    // above it.
+    const margin = MARGIN * this.scale;
+    const free = (room, length) => Math.max(0, room - length - margin);
+    const [across, down] = [
+      free(this.width - this.left, this.columns * this.cell),
+      free(this.height - this.top, this.rows * this.cell)
+    ];
+    const spare = this.isFolded ? 0 : this.left - this.room(this.cell, 0).left;
     this.slack = {
-      x: Math.floor(free(this.width - this.left, this.columns * this.cell) / 2),
-      y: Math.floor(free(this.height - this.top, this.rows * this.cell) / 3)
+      x: Math.floor(clamp((across + margin - spare) / 2, 0, across)),
+      y: Math.floor(down / 3)
     };
   }
 
