@@ -401,14 +401,13 @@ export const DE =
           'Die Farben sind neu geordnet. „Rückgängig“ stellt die alte Ordnung wieder her.',
       'view.colours': 'Farben',
       'view.addColour': 'Farbe hinzufügen',
-      'view.change': 'Ändern',
       'view.noRepairChangesCells': 'Keine Reparatur ändert Felder dieser Farbe',
       'view.name': 'Name',
       'view.oneSignEachCell': 'Ein Zeichen je Feld in XML',
-      'view.sign': 'Zeichen',
+      'view.sign': 'Zeichen in XML',
       'view.merge': 'Vereinigen',
-      'view.earlier': 'Weiter vorn',
-      'view.later': 'Weiter hinten',
+      'view.earlier': 'Nach links rücken',
+      'view.later': 'Nach rechts rücken',
       'view.placeOfCell': 'Zeile {value}, Spalte {columns}',
       'view.nearerOnly': '. Nur näher am Ziel: {far}',
       'view.thenCellsGuess': '; dann {cells|# offenes Feld|# offene Felder}',
@@ -421,7 +420,7 @@ export const DE =
       'view.repaint': 'Ummalen: ',
       'view.alsoGive': '; und vorgeben: {given}',
       'view.closer': 'näher am Ziel',
-      'view.spot': 'Z{row} S{col}',
+      'view.spot': 'Zeile {row}, Spalte {col}',
       'view.givenShort': '{cells|# vorgegeben|# vorgegeben}',
       'view.guessShort': '{cells|# offen|# offen}',
       'view.keep': 'in der Liste lassen',
@@ -585,7 +584,7 @@ export const DE =
       'play.pause': 'Pause',
       'play.playSteps': 'Abspielen',
       'play.numberCellRoundFalls':
-          'Die Zahl in einem Feld ist die Runde, in der es bestimmt wird; ? braucht mehr als Linienlogik.',
+          'Jede Tönung ist eine Runde der Linienlogik, in der ihre Felder bestimmt werden; ? braucht mehr als das.',
       // ---- library
       'library.browsersStorageFull': 'Der Speicher des Browsers ist voll',
       'library.browsersStorageLate': 'Der Speicher des Browsers öffnet sich nicht',
@@ -985,7 +984,7 @@ export const DE =
       'start.tourFix':
           'Reparieren: Gesucht werden Felder zum Umfärben oder Vorgeben, damit eine Lösung bleibt. Ein Druck nimmt einen Vorschlag, ein Rückgängig nimmt ihn zurück.',
       'start.tourPublish':
-          'Veröffentlichen: Gibt es nur eine Lösung, wird das Rätsel von hier aus gespeichert, gedruckt und geteilt.',
+          'Veröffentlichen: Gibt es nur eine Lösung, erscheint hier der Knopf dafür. Er speichert, druckt und teilt das Rätsel.',
       'start.back': 'Zurück zu {name}',
       'start.drawPictureOpenOne':
           'Zeichnen oder öffnen Sie ein Bild. Sie sehen seine Hinweise und ob sie nur eine Lösung haben. Dann exportieren oder drucken Sie das Rätsel.',

@@ -386,14 +386,13 @@ export const EN = /** @type {const} */ ({
   'view.coloursNewOrderUndo': 'The colours are in a new order. Undo reverts it.',
   'view.colours': 'Colours',
   'view.addColour': 'Add a colour',
-  'view.change': 'Change',
   'view.noRepairChangesCells': 'No repair changes cells of this colour',
   'view.name': 'Name',
   'view.oneSignEachCell': 'One sign for each cell in XML',
-  'view.sign': 'Sign',
+  'view.sign': 'Sign in XML',
   'view.merge': 'Merge',
-  'view.earlier': 'Earlier',
-  'view.later': 'Later',
+  'view.earlier': 'Move to the left',
+  'view.later': 'Move to the right',
   'view.placeOfCell': 'row {value}, column {columns}',
   'view.nearerOnly': '. Closer, but not enough: {far}',
   'view.thenCellsGuess': '; then {cells|# open cell|# open cells}',
@@ -406,7 +405,7 @@ export const EN = /** @type {const} */ ({
   'view.repaint': 'Repaint ',
   'view.alsoGive': ', and give {given}',
   'view.closer': 'closer',
-  'view.spot': 'r{row} c{col}',
+  'view.spot': 'Row {row}, column {col}',
   'view.givenShort': '{cells|# given|# givens}',
   'view.guessShort': '{cells|# open|# open}',
   'view.keep': 'keep in the list',
@@ -566,7 +565,7 @@ export const EN = /** @type {const} */ ({
   'play.pause': 'Pause',
   'play.playSteps': 'Play',
   'play.numberCellRoundFalls':
-      'The number in a cell is the round in which it is settled; ? needs more than line logic.',
+      'Each tint is a round of line logic, in which its cells are settled; ? needs more than that.',
   // ---- library
   'library.browsersStorageFull': 'The browser’s storage is full',
   'library.browsersStorageLate': 'The browser’s storage does not open',
@@ -951,7 +950,7 @@ export const EN = /** @type {const} */ ({
   'start.tourFix':
       'Fix it: this looks for cells to repaint or to give, so that one solution is left. Press a proposal to take it; one undo takes it back.',
   'start.tourPublish':
-      'Publish: once there is one solution, the puzzle is saved, printed and shared from here.',
+      'Publish: once there is one solution, the button for that appears here. It saves, prints and shares the puzzle.',
   'start.back': 'Back to {name}',
   'start.drawPictureOpenOne':
       'Draw a picture or open one. You see its clues, and whether they have only one solution. Then export the puzzle, or print it.',
