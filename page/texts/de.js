@@ -308,7 +308,7 @@ export const DE =
       'view.oneSolution': 'nur eine Lösung',
       'view.noGuessing': 'Linie für Linie lösbar',
       'view.aGrade': 'Schwierigkeit „{grade}“',
-      'view.asPens': 'wie die Stifte, wenn das Bild sie hat',
+      'view.asPens': 'wie die Stifte, wenn möglich',
       'view.keepsSymmetry': 'Symmetrie: {name}.',
       'view.withoutSymmetry': 'Ohne die Symmetrie gibt es vielleicht welche.',
       'view.comes': 'beliebig',
