@@ -7,6 +7,7 @@ import {clamp} from '../base/words.js';
 const SMALLEST = 3;  // a cell's side in the page's pixels
 const LARGEST = 64;
 const MARGIN = 16;  // the page's pixels around a picture that is fitted
+const TIGHT = 6;    // where its clues are folded
 // blocks of a clue for which a picture that is fitted has room, however short its clues and lines
 // are
 const FEW = 4;
@@ -125,8 +126,9 @@ export class Geometry {
         return {cell, isFolded: false};
     }
     const {left, top} = this.edges();
+    const tight = TIGHT * this.scale;
     const most = Math.min(
-        (this.width - left - margin) / this.columns, (this.height - top - margin) / this.rows
+        (this.width - left - tight) / this.columns, (this.height - top - tight) / this.rows
     );
     return {cell: Math.floor(clamp(most, 1, this.least)), isFolded: true};
   }
@@ -134,6 +136,10 @@ export class Geometry {
   resize(width, height, scale) {
     [this.width, this.height, this.scale] =
         [Math.round(width * scale), Math.round(height * scale), scale];
+  }
+
+  get margin() {
+    return Math.round((this.isFolded ? TIGHT : MARGIN) * this.scale);
   }
 
   /** Shows the whole picture. */
@@ -161,7 +167,7 @@ export class Geometry {
     this.pitch = this.pitchFor(this.cell);
     // A picture smaller than its room stands in the middle with the clues that it has, somewhat
     // above it.
-    const margin = MARGIN * this.scale;
+    const {margin} = this;
     const free = (room, length) => Math.max(0, room - length - margin);
     const [across, down] = [
       free(this.width - this.left, this.columns * this.cell),
@@ -232,7 +238,7 @@ export class Geometry {
   // Where the picture is smaller than its room it stays; else an edge comes no further than its
   // margin.
   clamp() {
-    const over = (length, room) => Math.max(0, length + MARGIN * this.scale - room);
+    const over = (length, room) => Math.max(0, length + this.margin - room);
     this.panX =
         Math.round(clamp(this.panX, 0, over(this.columns * this.cell, this.width - this.left)));
     this.panY =
