@@ -6,8 +6,8 @@ import {clamp} from '../base/words.js';
 
 const SMALLEST = 3;  // a cell's side in the page's pixels
 const LARGEST = 64;
-const MARGIN = 16;  // the page's pixels around a picture that is fitted
-const TIGHT = 6;    // where its clues are folded
+const MARGIN = 16;  // the page's pixels at the right of a picture that is fitted
+const TIGHT = 6;    // below it, and where its clues are folded
 // blocks of a clue for which a picture that is fitted has room, however short its clues and lines
 // are
 const FEW = 4;
@@ -117,16 +117,15 @@ export class Geometry {
    * three pixels are too many else.
    */
   fitting() {
-    const margin = MARGIN * this.scale;
+    const [margin, tight] = [MARGIN * this.scale, TIGHT * this.scale];
     for (let side = LARGEST; side >= SMALLEST; side--) {
       const cell = Math.round(side * this.scale);
       const {left, top} = this.room(cell);
       if (left + this.columns * cell + margin <= this.width &&
-          top + this.rows * cell + margin <= this.height)
+          top + this.rows * cell + tight <= this.height)
         return {cell, isFolded: false};
     }
     const {left, top} = this.edges();
-    const tight = TIGHT * this.scale;
     const most = Math.min(
         (this.width - left - tight) / this.columns, (this.height - top - tight) / this.rows
     );
@@ -168,10 +167,10 @@ export class Geometry {
     // A picture smaller than its room stands in the middle with the clues that it has, somewhat
     // above it.
     const {margin} = this;
-    const free = (room, length) => Math.max(0, room - length - margin);
+    const free = (room, length, edge) => Math.max(0, room - length - edge);
     const [across, down] = [
-      free(this.width - this.left, this.columns * this.cell),
-      free(this.height - this.top, this.rows * this.cell)
+      free(this.width - this.left, this.columns * this.cell, margin),
+      free(this.height - this.top, this.rows * this.cell, TIGHT * this.scale)
     ];
     const spare = this.isFolded ? 0 : this.left - this.room(this.cell, 0).left;
     this.slack = {
@@ -238,11 +237,11 @@ export class Geometry {
   // Where the picture is smaller than its room it stays; else an edge comes no further than its
   // margin.
   clamp() {
-    const over = (length, room) => Math.max(0, length + this.margin - room);
-    this.panX =
-        Math.round(clamp(this.panX, 0, over(this.columns * this.cell, this.width - this.left)));
-    this.panY =
-        Math.round(clamp(this.panY, 0, over(this.rows * this.cell, this.height - this.top)));
+    const over = (length, room) => Math.max(0, length - room);
+    const [wide, high] =
+        [this.columns * this.cell + this.margin, this.rows * this.cell + TIGHT * this.scale];
+    this.panX = Math.round(clamp(this.panX, 0, over(wide, this.width - this.left)));
+    this.panY = Math.round(clamp(this.panY, 0, over(high, this.height - this.top)));
   }
 
   // The edges of the room of the cells.
