@@ -303,7 +303,7 @@ export const FR =
       'view.oneSolution': 'une seule solution',
       'view.noGuessing': 'soluble ligne par ligne',
       'view.aGrade': 'la difficulté « {grade} »',
-      'view.asPens': 'comme les pinceaux, si l’image l’a',
+      'view.asPens': 'comme les pinceaux, si possible',
       'view.keepsSymmetry': 'Symétrie : {name}.',
       'view.withoutSymmetry': 'Sans la symétrie, il y en a peut-être.',
       'view.comes': 'pas demandée',
