@@ -81,8 +81,8 @@ async function naming(file, work) {
 /**
  * The documents of a unit as `{ docs, left }`. What lies beside the file holds in place of what the
  * file itself tells. Of several puzzles in a file each tells it itself: then that is `left`, and
- * the puzzles are as docsOfBytes gives them. `imageDocs(file, bytes, ground)` gives the documents of
- * an image, or null where the file is none.
+ * the puzzles are as docsOfBytes gives them. `imageDocs(file, bytes, ground)` gives the documents
+ * of an image, or null where the file is none.
  */
 export async function docsOfUnit(
     {file, fault, givens, background}, imageDocs = async (..._image) => null, progress = null

@@ -98,9 +98,7 @@ FLAWS = {flaw.split(' ')[0] for case in TABLE for flaw in case.flaws}
 def test_the_table():
     """It has each flaw, with and without certificates, and no name twice."""
     assert FLAWS == {'blank', 'background', 'given', 'alike'}
-    assert FLAWS <= {
-        flaw.split(' ')[0] for case in BY_CERTIFICATE for flaw in case.flaws
-    }
+    assert FLAWS <= {flaw.split(' ')[0] for case in BY_CERTIFICATE for flaw in case.flaws}
     assert len({case.name for case in TABLE}) == len(TABLE) > 25
 
 
