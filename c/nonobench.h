@@ -131,9 +131,9 @@ uint32_t nonobench_check_any_given(
 
 /* Assesses a puzzle, a P3 text or (`non`) a .non text with a goal: whether it is fit to be
  * published. The text is what `nonobench assess` prints for it, and ends with `fit` or `unfit`; or
- * why it is refused. The texts of a file of givens and of a certificate count where `has_givens` and
- * `has_certificate` say that they are passed. The allowance is a word: 0 to 99999, `off`, or none,
- * which stands for 10000. */
+ * why it is refused. The texts of a file of givens and of a certificate count where `has_givens`
+ * and `has_certificate` say that they are passed. The allowance is a word: 0 to 99999, `off`, or
+ * none, which stands for 10000. */
 uint32_t nonobench_assess(
     nonobench_desk **desk,
     const uint8_t *puzzle,

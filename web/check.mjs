@@ -66,7 +66,8 @@ class Checker {
 
   /**
    * The flaws of a picture that show without a search, as `nonobench assess` names them: 'blank',
-   * 'background' where no cell has it, and 'alike A B' for colours by their letters. Throws a Fault if the picture is refused.
+   * 'background' where no cell has it, and 'alike A B' for colours by their letters. Throws a Fault
+   * if the picture is refused.
    */
   flaws(picture, options = {}) {
     const samples = samplesOf(options), file = inputOf(picture), found = [];

@@ -302,8 +302,8 @@ class Engine {
   /**
    * Assesses a puzzle, a picture or a .non text with a goal: what readAssessment gives of the
    * engine's text. `published` cells are the givens, as for `check`, and a `certificate` takes the
-   * place of the search for another solution. `allowance` bounds the splits of each part: by default
-   * 10000, 'off' for none. Throws a Fault where one of the files is refused.
+   * place of the search for another solution. `allowance` bounds the splits of each part: by
+   * default 10000, 'off' for none. Throws a Fault where one of the files is refused.
    */
   assess(puzzle, options = {}) {
     const file = inputOf(puzzle), background = this.#background(options),

@@ -9,7 +9,6 @@ import {readGivens, readGround} from '../formats/published.js';
 import {faultText} from '../library/open.js';
 import {phrase} from '../texts/phrase.js';
 import {mustHold} from './decoding.js';
-import {kindOfFile} from './images.js';
 import {docOfPuzzle, docsOfBytes} from './reading.js';
 
 /** Files that are taken at once, folders that are looked into for them, and puzzles in a table. */
@@ -81,8 +80,8 @@ async function naming(file, work) {
 /**
  * The documents of a unit as `{ docs, left }`. What lies beside the file holds in place of what the
  * file itself tells. Of several puzzles in a file each tells it itself: then that is `left`, and
- * the puzzles are as docsOfBytes gives them. `imageDocs(file, bytes, ground)` gives the documents of
- * an image, or null where the file is none.
+ * the puzzles are as docsOfBytes gives them. `imageDocs(file, bytes, ground)` gives the documents
+ * of an image, or null where the file is none.
  */
 export async function docsOfUnit(
     {file, fault, givens, background}, imageDocs = async (..._image) => null, progress = null

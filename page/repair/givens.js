@@ -115,8 +115,7 @@ export class Giving {
     this.hooks.found({given: needed(this.board, [...enough]), isLeast: enough.size < 2});
     await this.#leaveOut(enough);
     const {given, isKnown} = await this.fewest(enough.size);
-    if (isKnown)
-      this.hooks.found({given: needed(this.board, given ?? [...enough]), isLeast: true});
+    if (isKnown) this.hooks.found({given: needed(this.board, given ?? [...enough]), isLeast: true});
   }
 
   /**

@@ -150,9 +150,7 @@ class Way:
             if 'path' in self.asks:
                 output.must_lines(*Solving(document.rows, givens).path_lines())
 
-        self.lines += [
-            f'{word} off' if word == 'assess' and off else word for word in self.asks
-        ]
+        self.lines += [f'{word} off' if word == 'assess' and off else word for word in self.asks]
         self.asked.append(judge)
 
     def others(self, rows):

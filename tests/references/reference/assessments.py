@@ -244,6 +244,4 @@ def guesses_of(document, certificate):
     """The splits and the depth of a tree that proves a document with its givens, and None of
     another such certificate; or raises the certificate's fault."""
     published = {(row + 1, col + 1) for row, col in document.givens}
-    return plain_forms.check(plain_forms.Puzzle(document.ordered().rows), certificate, published)[
-        1
-    ]
+    return plain_forms.check(plain_forms.Puzzle(document.ordered().rows), certificate, published)[1]

@@ -284,9 +284,7 @@ class Session:
 
     def assess(self, output, allowance):
         """An assessment. What was found before does not count."""
-        assessment = Assessment(
-            self.document, lambda givens: self.verdict_on(givens, allowance)
-        )
+        assessment = Assessment(self.document, lambda givens: self.verdict_on(givens, allowance))
         self.ungraded += must_assess(output, assessment, self.must_be_other)
 
     def verdict_on(self, givens, allowance):
