@@ -9,7 +9,6 @@ import {readGivens, readGround} from '../formats/published.js';
 import {faultText} from '../library/open.js';
 import {phrase} from '../texts/phrase.js';
 import {mustHold} from './decoding.js';
-import {kindOfFile} from './images.js';
 import {docOfPuzzle, docsOfBytes} from './reading.js';
 
 /** Files that are taken at once, folders that are looked into for them, and puzzles in a table. */
