@@ -52,9 +52,11 @@ const MISLAID = () => {
   const header = document.querySelector('header');
   if (isRead && header.scrollWidth > header.clientWidth + 1)
     wrong.push(`the header is ${header.scrollWidth} px wide`);
+  // The button for more of a tile lies in its corner.
   const buttons =
       all.filter(
-             (one) => one.matches('button, select, input:not([type=checkbox]):not([type=radio])')
+             (one) => one.matches('button, select, input:not([type=checkbox]):not([type=radio])') &&
+                 !one.closest('.tile-more')
       ).map((one) => [one, one.getBoundingClientRect()]);
   for (const [at, [one, box]] of buttons.entries()) {
     for (const [other, next] of buttons.slice(at + 1)) {
