@@ -262,11 +262,8 @@ TO_BE_WRITTEN_AGAIN = {
     'page/export/printing.js printPuzzle',
     'page/import/inks.js constructor',
     'page/library/shelf.js indexedShelf',
-    'page/view/commands.js addEditActions',
-    'page/view/fixing.js findRepairs',
     'crates/second_search/src/keeper.rt judge',
     'crates/web/src/calls.rt nonobench_assess',
-    'measure/from_clues.py disc',
     'python/src/nonobench/_calls.py assess',
     'python/src/nonobench/_library.py assess',
 }

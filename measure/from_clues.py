@@ -42,7 +42,9 @@ CHEQUERS = ((20, 2), (30, 2), (40, 2), (60, 2), (30, 3), (60, 3), (60, 5))
 STRIPES = ((30, 4), (60, 4), (60, 7), (60, 10), (40, 5))
 
 
-def disc(cells, row, col, high, wide, colour, hollow=0.0):
+def disc(cells, centre, radii, colour, hollow=0.0):
+    """Paints the cells within an ellipse, or its ring where it is hollow."""
+    (row, col), (high, wide) = centre, radii
     for r in range(len(cells)):
         for c in range(len(cells[0])):
             d = ((r - row) / high) ** 2 + ((c - col) / wide) ** 2
@@ -53,14 +55,9 @@ def disc(cells, row, col, high, wide, colour, hollow=0.0):
 def blobs(rng, h, w, k):
     cells = [[0] * w for _ in range(h)]
     for _ in range(rng.randrange(4, 4 + (h + w) // 3)):
-        disc(
-            cells,
-            rng.randrange(h),
-            rng.randrange(w),
-            rng.uniform(1, h / 5),
-            rng.uniform(1, w / 5),
-            rng.randrange(k),
-        )
+        centre = rng.randrange(h), rng.randrange(w)
+        radii = rng.uniform(1, h / 5), rng.uniform(1, w / 5)
+        disc(cells, centre, radii, rng.randrange(k))
     return cells
 
 
@@ -68,15 +65,9 @@ def rings(rng, h, w, k):
     cells = [[0] * w for _ in range(h)]
     for _ in range(rng.randrange(4, 4 + (h + w) // 5)):
         high, wide = rng.uniform(2, h / 3), rng.uniform(2, w / 3)
-        disc(
-            cells,
-            rng.randrange(h),
-            rng.randrange(w),
-            high,
-            wide,
-            rng.randrange(1, k),
-            max(0.0, 1 - 3.2 / min(high, wide)),
-        )
+        centre = rng.randrange(h), rng.randrange(w)
+        hollow = max(0.0, 1 - 3.2 / min(high, wide))
+        disc(cells, centre, (high, wide), rng.randrange(1, k), hollow)
     return cells
 
 

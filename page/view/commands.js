@@ -36,8 +36,32 @@ async function undoStroke() {
 }
 
 export function addEditActions() {
-  const hasBox = () => selection.box !== null;
-  const edit = (fields) => addAction({place: 'edit', ...fields});
+  addUndoActions();
+  addSelectActions();
+  addRegionActions();
+  addAction({id: 'symmetry-next', name: phrase('view.nextSymmetry'), key: 'm', run: nextSymmetry});
+  addAction({
+    id: 'drop',
+    name: phrase('view.cancel'),
+    key: 'Escape',
+    run: () => {
+      dropDrag();
+      if (!dropSelection()) forgetReason();
+    }
+  });
+  addAction({
+    id: 'set-down',
+    name: phrase('view.place'),
+    key: 'Enter',
+    run: setDown,
+    can: () => selection.rows !== null
+  });
+}
+
+const hasBox = () => selection.box !== null;
+const edit = (fields) => addAction({place: 'edit', ...fields});
+
+function addUndoActions() {
   edit({
     id: 'undo',
     name: phrase('view.undo'),
@@ -55,6 +79,9 @@ export function addEditActions() {
     },
     can: () => bench.future.length > 0
   });
+}
+
+function addSelectActions() {
   edit({
     id: 'select-all',
     name: phrase('view.selectAll'),
@@ -96,6 +123,9 @@ export function addEditActions() {
     run: clearSelected,
     can: hasBox
   });
+}
+
+function addRegionActions() {
   edit({
     id: 'select-colour',
     name: phrase('view.selectAllCellsColour'),
@@ -129,23 +159,6 @@ export function addEditActions() {
     name: phrase('view.shadowColour'),
     group: 'region',
     run: () => onObject(shadowOf)
-  });
-  addAction({id: 'symmetry-next', name: phrase('view.nextSymmetry'), key: 'm', run: nextSymmetry});
-  addAction({
-    id: 'drop',
-    name: phrase('view.cancel'),
-    key: 'Escape',
-    run: () => {
-      dropDrag();
-      if (!dropSelection()) forgetReason();
-    }
-  });
-  addAction({
-    id: 'set-down',
-    name: phrase('view.place'),
-    key: 'Enter',
-    run: setDown,
-    can: () => selection.rows !== null
   });
 }
 

@@ -200,6 +200,7 @@ async function searched(name, work) {
 
 // Gives the fewest cells that suffice, as one stroke.
 async function giveCells() {
+  clearTimeout(fixing.waits);
   const {goal} = Object.assign(fixing, {turn: fixing.turn + 1});
   const run = await searched(
       phrase('view.lookingCellsGive'),
@@ -237,15 +238,14 @@ async function takeGivens(state, {given, isLeast}) {
              }));
 }
 
-// Lists proposals, while they are found: the smallest and least seen first.
-async function findRepairs() {
+// Begins a new list, in which the proposals that are kept stay.
+function beginList() {
   clearTimeout(fixing.waits);
-  const of = bench.state;
   Object.assign(fixing, {
     found: fixing.found.filter((one) => fixing.kept.has(one) && isOfThis()),
     places: NO_PLACES,
     near: null,
-    of,
+    of: bench.state,
     by: fixing.goal,
     said: '',
     turn: fixing.turn + 1
@@ -254,55 +254,97 @@ async function findRepairs() {
   showAdjust(false);
   showFound();
   for (const id of ['fix', 'fix-list']) $(id).scrollTo(0, 0);  // the list is what is looked at
-  const {goal, turn} = fixing;
+}
+
+// Lists proposals, while they are found: the smallest and least seen first.
+async function findRepairs() {
+  beginList();
+  const {goal, turn, of} = fixing;
   if (goal === 'unique' && of.verdict?.word === 'unique')
     return fixSays(phrase('view.oneSolutionThere'));
-  const part = Math.min(2, secondsChosen() / 4);  // of the time, for the givens, and for mixtures
-  const run = await searched(phrase('view.lookingRepairs'), async (copy, state) => {
-    const board = boardOf(state, fixing.only);
+  const run = await searched(phrase('view.lookingRepairs'), (copy, state) => {
     fixing.of = state;
-    const told = ({found, nearer, places, placed}) => {
-      if (places) fixing.places = places;
-      if (found ?? placed)
-        add(state, found ?? placed);
-      else if (nearer)
-        fixing.near = {...nearer, far: farOf(state, goal, nearer), state};
-      else
-        showPlaces();
-      copy.note(noteOf());
-    };
-    const give = async (seconds) => {
-      const given = await copy.work('give', {board, goal, seconds}, () => {});
-      if (given.given?.length) add(state, given);
-      return given.isLeast;
-    };
-    if (isGrade(goal))
-      return copy.work('aim', {board, word: goal, seconds: Math.max(1, secondsChosen() - 1)}, told);
-    const isLeast = await give(QUICK);
-    const mirror = board.mirror || fixing.only ? null : mirrorOf(state.picture);
-    if (mirror)
-      await copy.work(
-          'repair',
-          {board: {...board, mirror}, goal, seconds: MIRRORED},
-          ({found}) => found && add(state, found)
-      );
-    copy.found =
-        await copy.work('repair', {board, goal, seconds: Math.max(1, secondsChosen() - 2)}, told);
-    if (goal === 'lines' && !(wholes()[0]?.cells.length <= FEW) && state.verdict.word !== 'unique')
-      await copy.work(
-          'repair',
-          {board, goal: 'unique', seconds: FALLBACK},
-          ({found}) => found && add(state, found)
-      );
-    if (!isLeast) await give(part);
-    const bound = Math.min(
-        ...fixing.found.filter((one) => one.state === state && one.place === undefined).map(sizeOf),
-        Infinity
-    );
-    await copy.work('mix', {board, goal, near: copy.found.near, bound, seconds: part}, told);
-    return copy.found;
+    const search = new RepairSearch(copy, state, goal);
+    return isGrade(goal) ? search.ofGrade() : search.all();
   });
   if (run && turn === fixing.turn) tellFound(run.done);
+}
+
+// A search for proposals by a copy of the engine. Each is listed as it is found.
+class RepairSearch {
+  constructor(copy, state, goal) {
+    this.copy = copy;
+    this.state = state;
+    this.goal = goal;
+    this.board = boardOf(state, fixing.only);
+  }
+
+  /** Proposals that have a grade. */
+  ofGrade() {
+    return this.ask('aim', {word: this.goal, seconds: Math.max(1, secondsChosen() - 1)});
+  }
+
+  /** Cells to give, repaints, and both together. */
+  async all() {
+    const part = Math.min(2, secondsChosen() / 4);  // of the time, for the givens, and for mixtures
+    const isLeast = await this.give(QUICK);
+    await this.mirrored();
+    const seconds = Math.max(1, secondsChosen() - 2);
+    this.copy.found = await this.ask('repair', {goal: this.goal, seconds});
+    if (this.goal === 'lines' && this.state.verdict.word !== 'unique' && !this.hasSmall())
+      await this.ask('repair', {goal: 'unique', seconds: FALLBACK}, this.addFound);
+    if (!isLeast) await this.give(part);
+    await this.mixed(part);
+    return this.copy.found;
+  }
+
+  // Asks the copy, and hears what it finds meanwhile.
+  ask(kind, fields, hear = this.hear) {
+    return this.copy.work(kind, {board: this.board, ...fields}, (said) => hear.call(this, said));
+  }
+
+  hear({found, nearer, places, placed}) {
+    if (places) fixing.places = places;
+    if (found ?? placed)
+      add(this.state, found ?? placed);
+    else if (nearer)
+      fixing.near = {...nearer, far: farOf(this.state, this.goal, nearer), state: this.state};
+    else
+      showPlaces();
+    this.copy.note(noteOf());
+  }
+
+  addFound({found}) {
+    if (found) add(this.state, found);
+  }
+
+  // Lists the fewest cells to give that are found in some seconds, and says whether no fewer do.
+  async give(seconds) {
+    const given = await this.ask('give', {goal: this.goal, seconds}, () => {});
+    if (given.given?.length) add(this.state, given);
+    return given.isLeast;
+  }
+
+  // First what keeps the picture's symmetry, where the pens have none.
+  async mirrored() {
+    const mirror = this.board.mirror || fixing.only ? null : mirrorOf(this.state.picture);
+    if (!mirror) return;
+    const board = {...this.board, mirror};
+    await this.ask('repair', {board, goal: this.goal, seconds: MIRRORED}, this.addFound);
+  }
+
+  hasSmall() {
+    return wholes()[0]?.cells.length <= FEW;
+  }
+
+  // Repaints and given cells together, if these are fewer than what was found.
+  async mixed(seconds) {
+    const sizes = fixing.found.filter(
+                                  (one) => one.state === this.state && one.place === undefined
+    ).map(sizeOf);
+    const {near} = this.copy.found;
+    await this.ask('mix', {goal: this.goal, near, bound: Math.min(...sizes, Infinity), seconds});
+  }
 }
 
 // Looks for what mends another picture. Where it has the grade that was aimed for, the list stays
