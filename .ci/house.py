@@ -261,7 +261,6 @@ def print_sizes():
 TO_BE_WRITTEN_AGAIN = {
     'page/export/printing.js printPuzzle',
     'page/import/inks.js constructor',
-    'page/library/shelf.js indexedShelf',
     'crates/second_search/src/keeper.rt judge',
     'crates/web/src/calls.rt nonobench_assess',
     'python/src/nonobench/_calls.py assess',

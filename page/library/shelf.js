@@ -45,53 +45,72 @@ function openTimed(open) {
   return {opening, inTime: Promise.race([opening, late])};
 }
 
-// What was closed under the page is opened again at the next need. Where that takes long, all is
-// refused until it is open, and `moved` is called then. `blocked` is called where the database may
-// open late at first.
-async function indexedShelf(home, blocked, moved) {
-  let opened = null;
-  const open = async (isBlocked) => {
-    const request = home.indexedDB.open(SHELF_NAME, 1);
+// A connection to the database. What was closed under the page is opened again at the next need.
+// Where that takes long, all is refused until it is open, and `moved` is called then.
+class Connection {
+  constructor(home, moved) {
+    this.home = home;
+    this.moved = moved;
+    /** @type {Promise<IDBDatabase> | null} */
+    this.opened = null;
+  }
+
+  /** Opens the database. `blocked` is called where another page holds it. */
+  async open(blocked) {
+    const request = this.home.indexedDB.open(SHELF_NAME, 1);
     request.onupgradeneeded = () => request.result.createObjectStore('kept');
-    request.onblocked = isBlocked;
+    request.onblocked = blocked;
     const database = await settledRequest(request);
-    return Object.assign(database, {
-      onclose: () => {
-        opened = null;
-      },
-      onversionchange: () => {
-        database.close();
-        opened = null;
-      }
-    });
-  };
-  const reopen = () => {
-    const {opening, inTime} = openTimed(open);
-    opening.then(
-        () => {
-          opened = opening;
-        },
-        () => {
-          opened = null;
-        }
-    );
-    inTime.catch(() => opening.then(moved, () => {}));
+    database.onclose = () => this.forget();
+    database.onversionchange = () => {
+      database.close();
+      this.forget();
+    };
+    return database;
+  }
+
+  forget() {
+    this.opened = null;
+  }
+
+  ready() {
+    return this.opened ??= this.reopen();
+  }
+
+  reopen() {
+    const {opening, inTime} = openTimed((isBlocked) => this.open(isBlocked));
+    opening.then(() => {
+      this.opened = opening;
+    }, () => this.forget());
+    inTime.catch(() => opening.then(this.moved, () => {}));
     return inTime;
-  };
-  const ready = () => (opened ??= reopen());
-  await (opened = open(blocked));
-  const read = async (ask) =>
-      ask((await ready()).transaction('kept', 'readonly').objectStore('kept'));
-  // A write is kept once its transaction is complete.
-  const write = (act) =>
-      ready().then((database) => new Promise((resolve, reject) => {
-                     const transaction =
-                         database.transaction('kept', 'readwrite', {durability: 'relaxed'});
-                     transaction.oncomplete = () => resolve();
-                     transaction.onabort = transaction.onerror = () =>
-                         reject(transaction.error ?? new Error('not kept'));
-                     act(transaction.objectStore('kept'));
-                   }));
+  }
+
+  async read(ask) {
+    const database = await this.ready();
+    return ask(database.transaction('kept', 'readonly').objectStore('kept'));
+  }
+
+  /** Writes; it is kept once its transaction is complete. */
+  async write(act) {
+    const database = await this.ready();
+    const transaction = database.transaction('kept', 'readwrite', {durability: 'relaxed'});
+    const done = new Promise((resolve, reject) => {
+      transaction.oncomplete = () => resolve();
+      transaction.onabort = transaction.onerror = () =>
+          reject(transaction.error ?? new Error('not kept'));
+    });
+    act(transaction.objectStore('kept'));
+    return done;
+  }
+}
+
+// A shelf in a database of the browser. `blocked` is called where it may open late at first.
+async function indexedShelf(home, blocked, moved) {
+  const connection = new Connection(home, moved);
+  await (connection.opened = connection.open(blocked));
+  const read = (ask) => connection.read(ask);
+  const write = (act) => connection.write(act);
   return whole({
     lasts: true,
     get: (key) => read((kept) => settledRequest(kept.get(key))),
