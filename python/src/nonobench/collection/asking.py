@@ -3,24 +3,25 @@
 
 from __future__ import annotations
 
+import contextlib
 import functools
 import hashlib
 import json
 import os
 import threading
-from collections import deque
 from concurrent.futures import Executor, Future, ThreadPoolExecutor
+from queue import Empty, SimpleQueue
 from typing import Any, Iterable, Iterator, NamedTuple, Optional, Sequence, Union
 
 from .._library import version
-from ..worker import Worker
+from ..worker import OVER_MEMORY, OVER_PROCESSOR, Worker
 from .judging import CERTIFY, JUDGE, parts_of
 from .puzzles import Answer, Options, Question, Row
 
 WALL = 10  # how much longer a puzzle may take by the clock than of the processor
-MOST_ASKED = 32  # questions that go together
-MOST_BYTES = 1 << 20  # of these, and of one more
-MOST_AHEAD = 32 << 20  # bytes of questions that are on their way
+LEAST_AHEAD = 64  # puzzles on their way, before what has come is taken
+MOST_AHEAD = 4096  # puzzles behind one that takes long
+MOST_BYTES = 32 << 20  # of questions that are on their way
 
 
 class Judge(Worker):
@@ -32,44 +33,32 @@ class Judge(Worker):
     def _program(self) -> tuple[str, bool]:
         return "collection.judging", True
 
-    def answers(self, questions: Sequence[Question], options: Options) -> list[Answer]:
-        """What is said of puzzles, and what is to be written for each."""
-        texts = self._texts(JUDGE, questions, options)
-        rows = [_row_of(*both, options) for both in zip(questions, texts)]
-        is_making = options.is_certifying or options.is_publishing
-        made = [at for at, row in enumerate(rows) if is_making and row["verdict"] == "unique"]
-        files: dict[int, dict[str, bytes]] = {}
-        for at, text in zip(made, self._texts(CERTIFY, [questions[at] for at in made], options)):
-            found = json.loads(text) if isinstance(text, bytes) else {}
-            files[at] = {ending: data.encode("ascii") for ending, data in found.items()}
-            _add_certificate(rows[at], files[at], options)
-        return [Answer(row, files.get(at, {})) for at, row in enumerate(rows)]
+    def answer(self, question: Question, options: Options) -> Answer:
+        """What is said of a puzzle, and what is to be written for it."""
+        text, why = self._text(JUDGE, question, options)
+        row: Row = {"file": question.name, "verdict": "undecided", "fit": False, "notes": [why]}
+        row = json.loads(text) if text else {**row, "limit": options.limit()}
+        row["tool"], row["digest"] = _tool(), digest_of(question.data)
+        files: dict[str, bytes] = {}
+        if (options.is_certifying or options.is_publishing) and row["verdict"] == "unique":
+            text, why = self._text(CERTIFY, question, options)
+            found = json.loads(text) if text else {}
+            files = {ending: data.encode("ascii") for ending, data in found.items()}
+            _add_certificate(row, files, options)
+        is_lasting = why in ("", OVER_PROCESSOR, OVER_MEMORY) and "missing" not in row
+        return Answer(row, files, is_lasting)
 
-    def _texts(
-        self, kind: int, questions: Sequence[Question], options: Options
-    ) -> list[Union[bytes, Exception]]:
-        """The text that is answered to each question, or what it exceeded."""
-        asked = [(kind, *parts_of(question, options)) for question in questions]
-        found: list[Any] = []
-        while len(found) < len(asked):
-            try:
-                self._ask_all(asked[len(found) :], found)
-            except (TimeoutError, MemoryError) as error:
-                found.append(error)
-        return [one if isinstance(one, Exception) else one[1][0] for one in found]
+    def _text(self, kind: int, question: Question, options: Options) -> tuple[bytes, str]:
+        """The text that is answered to a question, or why none is."""
+        try:
+            return self._answer(kind, *parts_of(question, options))[1][0], ""
+        except (TimeoutError, MemoryError) as error:
+            return b"", str(error)
 
-
-def _row_of(question: Question, text: Union[bytes, Exception], options: Options) -> Row:
-    """The row of an answer; where none came, why."""
-    row: Row
-    if isinstance(text, bytes):
-        row = json.loads(text)
-    else:
-        why = str(text) if isinstance(text, TimeoutError) else "not within its memory"
-        row = {"file": question.name, "verdict": "undecided", "fit": False}
-        row.update(notes=[why], limit=options.limit())
-    row["tool"], row["digest"] = _tool(), _sum(question.data)
-    return row
+    def stop(self) -> None:
+        """Ends the process in the middle of another thread's call, which raises RuntimeError."""
+        if self._asked:
+            self._asked.stop()
 
 
 def _add_certificate(row: Row, files: dict[str, bytes], options: Options) -> None:
@@ -79,7 +68,8 @@ def _add_certificate(row: Row, files: dict[str, bytes], options: Options) -> Non
         row["limit"] = options.limit()
         row["notes"] = ["no certificate was made within its time and memory"]
     else:
-        row["lines"], row["files"] = certificate.count(b"\n"), sorted(files)
+        row["lines"] = certificate.count(b"\n")
+        row["files"] = {ending: digest_of(files[ending]) for ending in sorted(files)}
 
 
 _kept = threading.local()
@@ -95,8 +85,8 @@ def judge(
     bounds = options.seconds, options.memory
     if getattr(_kept, "bounds", None) != bounds:
         _kept.judge, _kept.bounds = Judge(options), bounds
-    found: list[Answer] = _kept.judge.answers(questions, options)
-    return found
+        getattr(_kept, "judges", []).append(_kept.judge)
+    return [_kept.judge.answer(question, options) for question in questions]
 
 
 def audit(
@@ -107,13 +97,24 @@ def audit(
     """The rows of puzzles, each a Question or its fields (a name, bytes, ..), in order.
 
     They are judged by the threads of an executor; without one, by a thread for each processor.
+    Whoever leaves the loop ends what is under way, but in threads of an executor of their own the
+    puzzles that have begun.
     """
     if executor is not None:
-        entries = (Entry(Question(*puzzle)) for puzzle in puzzles)
-        yield from (answer.row for _, answer in answers(entries, options, executor, deque()))
+        turns = Turns()
+        for come in arrivals((Entry(Question(*puzzle)) for puzzle in puzzles), options, executor):
+            for number, _, answer in come:
+                yield from turns.due(number, answer.row)
         return
-    with ThreadPoolExecutor(len(os.sched_getaffinity(0))) as threads:
+    judges: list[Judge] = []
+    count = len(os.sched_getaffinity(0))
+    threads = ThreadPoolExecutor(count, initializer=setattr, initargs=(_kept, "judges", judges))
+    try:
         yield from audit(puzzles, options, threads)
+    finally:
+        threads.shutdown(wait=False, cancel_futures=True)
+        for one in judges:
+            one.stop()
 
 
 class Entry(NamedTuple):
@@ -128,66 +129,83 @@ class Entry(NamedTuple):
         return 4096 + sum(len(part or b"") for part in (self.question or ())[1:5])
 
 
-class Pack:
-    """Puzzles that go together, and the answers to those that are asked about."""
+class Turns:
+    """Brings rows that come in any order into that of their numbers."""
 
-    def __init__(self, entries: list[Entry], future: Optional[Future[list[Answer]]]) -> None:
-        self.size = sum(map(Entry.size, entries))
-        self._entries, self._future = deque(entries), future
-        self._made: Optional[deque[Answer]] = None
+    def __init__(self) -> None:
+        self._held: dict[int, Row] = {}
+        self._next = 0
 
-    def is_done(self) -> bool:
-        """Whether the answers are there."""
-        return self._future is None or self._future.done()
-
-    def answers(self) -> Iterator[tuple[Entry, Answer]]:
-        """Each puzzle with its answer, once they are there; those that did not come before."""
-        if self._made is None:
-            self._made = deque(self._future.result() if self._future else ())
-        while self._entries:
-            entry = self._entries.popleft()
-            yield entry, self._made.popleft() if entry.question else Answer(entry.row)
+    def due(self, number: int, row: Row) -> Iterator[Row]:
+        """Takes a row, and gives those whose turn it is."""
+        self._held[number] = row
+        while self._next in self._held:
+            self._next += 1
+            yield self._held.pop(self._next - 1)
 
 
-def answers(
-    entries: Iterable[Entry], options: Options, executor: Executor, waiting: deque[Pack]
-) -> Iterator[tuple[Entry, Answer]]:
-    """Each puzzle with its answer, in order. What is on its way is in `waiting`."""
-    for pack in _packs(entries):
-        asked = [entry.question for entry in pack if entry.question]
-        future = executor.submit(judge, asked, options, _tool()) if asked else None
-        waiting.append(Pack(pack, future))
-        while waiting and (waiting[0].is_done() or sum(p.size for p in waiting) > MOST_AHEAD):
-            yield from waiting[0].answers()
-            waiting.popleft()
-    while waiting:
-        yield from waiting[0].answers()
-        waiting.popleft()
+Arrival = tuple[int, Entry, Answer]
 
 
-def _packs(entries: Iterable[Entry]) -> Iterator[list[Entry]]:
-    pack: list[Entry] = []
+def arrivals(
+    entries: Iterable[Entry], options: Options, executor: Executor
+) -> Iterator[list[Arrival]]:
+    """The answers as they come, each with the number of its puzzle. Leaving the loop cancels what
+    waits."""
+    waiting: dict[int, tuple[Entry, Future[list[Answer]]]] = {}  # the lowest number first
+    come: SimpleQueue[int] = SimpleQueue()
     size = 0
-    for entry in entries:
-        pack.append(entry)
-        size += entry.size()
-        if len(pack) == MOST_ASKED or size > MOST_BYTES:
-            yield pack
-            pack, size = [], 0
-    if pack:
-        yield pack
+    try:
+        for number, entry in enumerate(entries):
+            future = _asked(entry, options, executor)
+            waiting[number] = entry, future
+            size += entry.size()
+            future.add_done_callback(lambda _, number=number: come.put(number))  # type: ignore[misc]
+            while waiting and (
+                (size > MOST_BYTES or number - next(iter(waiting)) >= MOST_AHEAD)
+                or (len(waiting) >= LEAST_AHEAD and not come.empty())
+            ):
+                found = _taken(waiting, come)
+                size -= sum(entry.size() for _, entry, _ in found)
+                yield found
+        while waiting:
+            yield _taken(waiting, come)
+    finally:
+        for _, future in waiting.values():
+            future.cancel()
+
+
+def _taken(
+    waiting: dict[int, tuple[Entry, Future[list[Answer]]]], come: SimpleQueue[int]
+) -> list[Arrival]:
+    """Takes what has come out of what waits: at least one."""
+    numbers = [come.get()]
+    with contextlib.suppress(Empty):
+        while True:
+            numbers.append(come.get_nowait())
+    taken = [(number, *waiting.pop(number)) for number in numbers]
+    return [(number, entry, future.result()[0]) for number, entry, future in taken]
+
+
+def _asked(entry: Entry, options: Options, executor: Executor) -> Future[list[Answer]]:
+    if entry.question is not None:
+        return executor.submit(judge, [entry.question], options, _tool())
+    known: Future[list[Answer]] = Future()
+    known.set_result([Answer(entry.row)])
+    return known
 
 
 def key_of(question: Question, options: Options) -> str:
     """A digest of all that an answer comes from, but for the bounds that are in its `limit`."""
-    parts = [None if part is None else _sum(part) for part in question[1:5]]
+    parts = [None if part is None else digest_of(part) for part in question[1:5]]
     ending = question.name.lower().rpartition(".")[2]
     kept = options._replace(seconds=0, memory=0)
     claim = question.ignored, question.claimed
-    return _sum(repr((_tool(), ending, parts, claim, kept)).encode())
+    return digest_of(repr((_tool(), ending, parts, claim, kept)).encode())
 
 
-def _sum(data: bytes) -> str:
+def digest_of(data: bytes) -> str:
+    """SHA-256, as a row has it."""
     return hashlib.sha256(data).hexdigest()
 
 
