@@ -91,10 +91,18 @@ export async function sheetsInTurn(puzzles, options, progress, take = (sheet) =>
   return sheets.length === makers.length ? sheets : null;
 }
 
+// What stands above a puzzle that is the only one: its title, if it has one.
+const headAlone = (title) => (title ? 'titles' : 'numbers');
+
 /** The first sheet of a puzzle as it would be printed, as a part of the page. */
-export const firstSheet = (puzzle) => drawingOf(
-    makersFor([puzzle], {...chosen, perSheet: 1, show: shownFirst(nearText(puzzle.doc))})[0]().svg
-);
+export const firstSheet = (puzzle) => drawingOf(makersFor(
+                                                    [puzzle], {
+                                                      ...chosen,
+                                                      perSheet: 1,
+                                                      head: headAlone(puzzle.doc.about.title),
+                                                      show: shownFirst(nearText(puzzle.doc))
+                                                    }
+)[0]().svg);
 
 /** What is to be known before a puzzle leaves the page. */
 export const notesOfPuzzle = ({doc, verdict}) => [WARNINGS[verdict], nearText(doc)].filter(Boolean
@@ -190,7 +198,7 @@ export function printFields(own, near) {
   const fields = {
     title: make(
         'input',
-        {type: 'text', id: 'print-title', value: own.doc.about.title || own.name, maxlength: '200'}
+        {type: 'text', id: 'print-title', value: own.doc.about.title ?? '', maxlength: '200'}
     ),
     paper: choice('print-paper', PAPER_NAMES, chosen.paper),
     wide: tick('print-wide', chosen.isWide),
@@ -328,9 +336,16 @@ const printPuzzle = () => asSeen(async (seen) => {
   const svgName = make('span');
   const titled = () =>
       ({...own, doc: {...own.doc, about: {...own.doc.about, title: fields.title.value.trim()}}});
+  const ofSeveral = [fields.head, fields.order].map((field) => field.closest('label'));
+  const wished = () => {
+    const options = readFields(fields);
+    return others.chosen().length ? options :
+                                    {...options, head: headAlone(fields.title.value.trim())};
+  };
   let [turn, tooMany] = [0, ''];
   const showNotes = async () => {
-    const [ownTurn, options, cards] = [++turn, readFields(fields), others.chosen()];
+    const [ownTurn, options, cards] = [++turn, wished(), others.chosen()];
+    for (const row of ofSeveral) row.hidden = !cards.length;
     const count = makersOf(inOrder([own, ...cards], options.order), options).length;
     tooMany =
         count > MOST_SHEETS ? phrase('export.mostSheets', {sheets: count, most: MOST_SHEETS}) : '';
@@ -368,10 +383,10 @@ const printPuzzle = () => asSeen(async (seen) => {
   });
   turn++;
   if (!way) return;
-  const options = readFields(fields);
+  const options = wished();
   Object.assign(
       chosen,
-      options,
+      readFields(fields),
       (bench.term !== seen.term || options.show === shownFirst(near)) && {show: chosen.show}
   );  // what was only proposed is not chosen
   const sheets = await withProgress(phrase('export.print'), async (progress) => {

@@ -15,17 +15,23 @@ const AUTHOR = 'nonobench-author';  // as it was typed last
 const TEXTS = ['title', 'author', 'copyright', 'description', 'note'];
 const REST = 200;  // milliseconds between a key and the sheet with what was typed
 
-// The ways out, with an icon each: for sites and solvers first, then images, then what proves it.
+// The ways out by what they are for, with an icon each; the first one is the main one.
 const WAYS = [
-  ['export-xml', 'save'],
-  ['export-site', 'save'],
-  ['print', 'print'],
-  ['share', 'link'],
-  ['export-empty', 'picture'],
-  ['export-picture', 'picture'],
-  ['export-path', 'walk'],
-  ['certificate', 'check']
+  [
+    phrase('export.forSites'),
+    ['export-xml', 'save'],
+    ['export-site', 'save'],
+    ['certificate', 'check']
+  ],
+  [phrase('export.forPlayers'), ['share', 'link'], ['print', 'print']],
+  [
+    phrase('export.asImage'),
+    ['export-empty', 'picture'],
+    ['export-picture', 'picture'],
+    ['export-path', 'walk']
+  ]
 ];
+const MAIN_WAY = 'export-xml';
 
 /** The author that is proposed: that of the last time, for a puzzle that has no texts yet. */
 export const authorFor = (about) =>
@@ -36,10 +42,10 @@ export const keepAuthor = (author) => keepChoice(AUTHOR, author);
 
 // The dialog's fields, as texts about the puzzle.
 function textFields(about) {
-  const field = (id, value) =>
-      make('input', {type: 'text', id, value: value ?? '', maxlength: '500'});
+  const field = (id, value, isFirst = false) =>
+      make('input', {type: 'text', id, value: value ?? '', maxlength: '500', autofocus: isFirst});
   const [title, author] =
-      [field('publish-title', about.title), field('publish-author', authorFor(about))];
+      [field('publish-title', about.title, true), field('publish-author', authorFor(about))];
   return {
     rows: [fieldOf(phrase('export.title'), title), fieldOf(phrase('export.author'), author)],
     texts: () => ({title: title.value.trim(), author: author.value.trim()})
@@ -60,24 +66,34 @@ const publish = () => asSeen(async (seen) => {
   const own = puzzleOf(seen);
   const {rows, texts} = textFields(own.doc.about);
   const preview = make('figure', {class: 'preview', 'aria-hidden': 'true'});
-  const notes = make('div', {id: 'publish-notes', role: 'status'}, ...notesOfPuzzle(own));
+  const isAmbiguous = own.verdict === 'ambiguous';
   const draw = () => preview.replaceChildren(
       firstSheet({...own, doc: {...own.doc, about: {...own.doc.about, ...texts()}}})
   );
   let [way, timer] = [null, 0];
-  const button = ([id, icon]) => make(
+  const button = (id, ...parts) => make(
       'button',
       {
         type: 'button',
+        class: id === (isAmbiguous ? 'fix' : MAIN_WAY) ? 'main' : null,
         'data-way': id,
         title: actions.get(id).hint,
+        disabled: id === 'certificate' && isAmbiguous,
         onclick: (event) => {
           way = id;
           event.target.closest('dialog').close();
         }
       },
-      iconOf(icon),
+      ...parts,
       make('span', {}, actions.get(id).name)
+  );
+  const group = ([head, ...ways]
+  ) => [make('h3', {}, head), ...ways.map(([id, icon]) => button(id, iconOf(icon)))];
+  const notes = make(
+      'div',
+      {id: 'publish-notes', role: 'status', class: 'rows'},
+      ...notesOfPuzzle(own),
+      ...(isAmbiguous ? [button('fix')] : [])
   );
   const later = () => {
     clearTimeout(timer);
@@ -94,12 +110,12 @@ const publish = () => asSeen(async (seen) => {
         make(
             'div',
             {class: 'rows'},
+            notes,
             ...rows,
-            make('div', {class: 'ways'}, ...WAYS.map(button)),
-            notes
+            make('div', {class: 'ways'}, ...WAYS.flatMap(group))
         )
     ),
-    buttons: [{name: 'OK', value: true, main: true}]
+    buttons: [{name: phrase('export.done'), value: true, main: true, isPlain: true}]
   });
   clearTimeout(timer);
   if (!done && !way) return;

@@ -990,6 +990,10 @@ export const DE =
           'export.shareHolds':
               'Enthält das ganze Rätsel in einer Adresse, zum Lösen oder Bearbeiten, oder als HTML für eine Website.',
           'export.publish': 'Veröffentlichen',
+          'export.done': 'Fertig',
+          'export.forSites': 'Für Rätselseiten',
+          'export.forPlayers': 'Für Spieler',
+          'export.asImage': 'Als Bild',
           // ---- start
           'start.justNow': 'gerade eben',
           'start.newestFirst': 'Neueste zuerst',

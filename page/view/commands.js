@@ -1,6 +1,6 @@
 // What the menus Edit, Picture, View and Help have, with their keys.
 
-import {make, say} from '../base/elements.js';
+import {fieldOf, make, say} from '../base/elements.js';
 import {opening} from '../base/words.js';
 import {LETTERS, MOST_CELLS, MOST_COLOURS} from '../document/limits.js';
 import {outlineOf, placesOfBox, placesOfLetter, shadowOf} from '../document/regions.js';
@@ -212,7 +212,7 @@ async function pasteByDialog() {
   const rows = () => rowsOfText(field.value, bench.state.colours.length);
   const done = await openDialog({
     title: phrase('view.pasteText'),
-    content: make('div', {}, make('p', {}, phrase('view.oneLineEachRow')), field),
+    content: make('div', {class: 'rows'}, make('p', {}, phrase('view.oneLineEachRow')), field),
     buttons: [{
       name: phrase('view.paste'),
       value: rows,
@@ -294,10 +294,8 @@ function trim() {
 async function resizeByDialog() {
   setDown();
   const doc = bench.seen();
-  const field = (label, value) =>
-      make('input', {type: 'number', min: 1, max: MOST_CELLS, value, 'aria-label': label});
-  const [columns, rows] =
-      [field(phrase('view.columns'), doc.columns), field(phrase('view.rows'), doc.rows)];
+  const field = (value) => make('input', {type: 'number', min: 1, max: MOST_CELLS, value});
+  const [columns, rows] = [field(doc.columns), field(doc.rows)];
   const [heights, sides] = [
     [phrase('view.atTop'), phrase('view.middle'), phrase('view.atBottom')],
     [phrase('view.atLeft'), phrase('view.middle'), phrase('view.atRight')]
@@ -326,14 +324,9 @@ async function resizeByDialog() {
     title: phrase('view.resize'),
     content: make(
         'div',
-        {},
-        make(
-            'p',
-            {},
-            make('label', {}, phrase('view.columns'), columns),
-            ' ',
-            make('label', {}, phrase('view.rows'), rows)
-        ),
+        {class: 'rows'},
+        fieldOf(phrase('view.columns'), columns),
+        fieldOf(phrase('view.rows'), rows),
         make('p', {}, phrase('view.keepPicture')),
         anchor
     ),

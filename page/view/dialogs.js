@@ -7,9 +7,10 @@ import {phrase} from '../texts/phrase.js';
 /**
  * Opens a dialog and resolves to the value of the button that closed it, or to null for Escape or
  * Cancel. `content` is an element or a text; `buttons` are {name, value, main, test}: where `test`
- * gives a text, that is shown and the dialog stays; so it does where it gives true.
+ * gives a text, that is shown and the dialog stays; so it does where it gives true. The main one
+ * is coloured, unless it `isPlain` as the content has what is chosen.
  * @param {{title: string, content?: any, wide?: boolean, buttons?: {name: string, value: any,
- *     main?: boolean, test?: () => any}[]}} what
+ *     main?: boolean, isPlain?: boolean, test?: () => any}[]}} what
  */
 export function openDialog(
     {title, content = '', buttons = [{name: 'OK', value: true, main: true}], wide = false}
@@ -40,7 +41,7 @@ export function openDialog(
           'button',
           {
             type: button.main ? 'submit' : 'button',
-            class: button.main ? 'main' : null,
+            class: button.main && !button.isPlain ? 'main' : null,
             onclick: button.main ? null : () => press(button)
           },
           button.name
