@@ -172,8 +172,8 @@ def python_functions():
         if name.endswith('.py') and not TESTS.search(name):
             for node in ast.walk(ast.parse(text_of(name))):
                 if isinstance(node, (ast.FunctionDef, ast.AsyncFunctionDef)):
-                    given = node.args
-                    count = len(given.posonlyargs) + len(given.args)
+                    given = [*node.args.posonlyargs, *node.args.args]
+                    count = sum(1 for one in given if one.arg != 'self')
                     yield name, node.lineno, node.name, node.end_lineno - node.lineno + 1, count
 
 
@@ -263,8 +263,6 @@ TO_BE_WRITTEN_AGAIN = {
     'page/import/inks.js constructor',
     'crates/second_search/src/keeper.rt judge',
     'crates/web/src/calls.rt nonobench_assess',
-    'python/src/nonobench/_calls.py assess',
-    'python/src/nonobench/_library.py assess',
 }
 # The prover finds these lemmas by what they say.
 FOUND_BY_THE_PROVER = {
