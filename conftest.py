@@ -9,6 +9,7 @@ that release.
 import collections
 import compileall
 import importlib.util
+import json
 import os
 import shutil
 import signal
@@ -407,12 +408,15 @@ def lay_scripts(package):
     """Puts the scripts of this tree into an installed package of the release."""
     for file in [
         *tried.ROOT.glob('packages/npm/*.mjs'),
-        tried.ROOT / 'packages/npm/index.d.mts',
+        *tried.ROOT.glob('packages/npm/*.d.mts'),
         tried.ROOT / 'web/nonobench.mjs',
     ]:
         if file.name != 'test.mjs':
             shutil.copy(file, package)
     shutil.copy(tried.ROOT / 'web/nonobench.d.ts', package / 'nonobench.d.mts')
+    about = json.loads((package / 'package.json').read_text())
+    now = json.loads((tried.ROOT / 'packages/npm/package.json').read_text())
+    (package / 'package.json').write_text(json.dumps({**about, 'exports': now['exports']}))
 
 
 @pytest.fixture(scope='session')

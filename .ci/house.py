@@ -236,9 +236,8 @@ def proof_sizes():
         code += sum(1 for line in code_of(lines) if not line.startswith('ghost '))
     for name in proof_sources():
         proofs += sum(1 for line in text_of(name).split('\n') if line.strip())
-    said = (
-        f'some {round(code, -3):,} lines, by {round(proofs, -3):,} lines of definitions and lemmas'
-    )
+    lemmas = f'{round(proofs, -3):,} lines of definitions and lemmas'
+    said = f'{round(code, -3):,} lines are proved by {lemmas}'
     if said not in text_of('README.md'):
         yield f'README.md does not say: {said}'
 

@@ -5,10 +5,10 @@ Usage: .ci/memory.py [-v]: with -v it also prints how many places of each kind t
 
 No clause can say of the system's allocator when it refuses. So this is a matter of the text, line
 by line. Each `AllocError`, each variant `Memory` and each status `MEMORY` in `crates/*/src` that is
-made must come from a call that grows memory: by `?` through an `impl From` of a refused growth;
-by `map_err` after a call of GROWING, in one line; or by an arm of which every alternative is such an
-error. Each other line has an entry in OTHERS, with its reason. An entry that is not found any more is an error
-too. The crate of tests `refused` is not read.
+made must come from a call that grows memory: by `?` through an `impl From` of a refused growth; by
+`map_err` after a call of GROWING, in one line; or by an arm of which every alternative is such an
+error. Each other line has an entry in OTHERS, with its reason. An entry that is not found any more
+is an error too. The crate of tests `refused` is not read.
 """
 import pathlib
 import re

@@ -3,7 +3,10 @@ import type { Checked, CheckOptions, Input } from './nonobench.mjs';
 
 /** Why a call was not answered, as in nonobench.mjs. */
 export class Fault extends Error {
-  readonly kind: 'open' | 'memory' | 'ended';
+  readonly kind: 'picture' | 'length' | 'option' | 'memory' | 'ended';
+  readonly name: string;
+  readonly byte: number | null;
+  readonly line: number | null;
   readonly text: string;
   constructor(kind: Fault['kind'], text: string);
 }
@@ -23,5 +26,5 @@ export interface Checker {
   refuse(nth: number): void;
 }
 
-/** Makes a checker of the bytes of nonobench-check.wasm. */
-export function load(bytes: Uint8Array | ArrayBuffer): Promise<Checker>;
+/** Makes a checker of nonobench-check.wasm: its bytes, or what WebAssembly.compile makes of them. */
+export function load(module: Uint8Array | ArrayBuffer | WebAssembly.Module): Promise<Checker>;

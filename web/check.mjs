@@ -8,7 +8,7 @@
 // givens}.
 // - checker.flaws(picture, {background: '0,0,0'}) gives such as ['blank', 'alike a b'].
 // - checker.version is as `nonobench --version` prints it after the name.
-import {backgroundOf, checkedOf, Fault, inputOf, isAnyGiven, publishedOf, Runs} from './nonobench.mjs';
+import {backgroundOf, checkedOf, Fault, inputOf, instanceOf, isAnyGiven, publishedOf, refusalOf, Runs} from './nonobench.mjs';
 
 export {Fault};
 
@@ -30,7 +30,7 @@ function samplesOf(options) {
   const word = backgroundOf(options);
   const words = word === '' ? [] : word.split(','), samples = words.map(Number);
   if (words.some((digits) => digits.length > 5) || samples.some((sample) => sample > 65535))
-    throw new Fault('open', 'background must be R,G,B');
+    throw new Fault('option', 'background must be R,G,B');
   return Uint16Array.from(samples);
 }
 
@@ -106,7 +106,8 @@ class Checker {
   }
 
   #refuse(status, text) {
-    throw status === MEMORY ? new Fault('memory', 'memory') : new Fault('open', text);
+    if (status === MEMORY) throw new Fault('memory', 'memory');
+    throw status === REFUSED ? refusalOf(text) : new Fault('option', text);
   }
 
   // Calls with files, a background and some room, all in one block of the module's memory: the
@@ -133,8 +134,9 @@ class Checker {
   }
 }
 
-/** Makes a checker of the bytes of nonobench-check.wasm. */
-export async function load(bytes) {
-  const {instance} = await WebAssembly.instantiate(bytes, {});
-  return new Checker(instance);
+/**
+ * Makes a checker of nonobench-check.wasm: its bytes, or what WebAssembly.compile makes of them.
+ */
+export async function load(module) {
+  return new Checker(await instanceOf(module));
 }

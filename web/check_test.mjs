@@ -7,7 +7,7 @@ import {dirname, join} from 'node:path';
 import test from 'node:test';
 import {fileURLToPath, pathToFileURL} from 'node:url';
 import {faultBy, mustCheckForms, mustCheckPublished, refusedInTurn} from '../tests/cases.mjs';
-import {TRIED} from '../tests/waits.mjs';
+import {TRIED, waits} from '../tests/waits.mjs';
 import {load as loadEngine} from './nonobench.mjs';
 
 const root = join(dirname(fileURLToPath(import.meta.url)), '..');
@@ -78,20 +78,30 @@ test('givens as places and as a file, and what is refused', async () => {
     );
   }
   assert.deepEqual(answerOf(checker, 'P4\n', CERTIFICATE).text, 'ppm NotP3 at byte 0');
-  for (const wrong of ['', '1,2', '1,2,3,4', 'red', '1,2,65536', '1,2,-3', '000255,0,0']) {
-    assert.deepEqual(
-        faultOf(() => checker.check(PICTURE, CERTIFICATE, {background: wrong})),
-        ['open', 'background must be R,G,B']
-    );
-  }
-  assert.deepEqual(
-      faultOf(() => checker.check(PICTURE, ' '.repeat(16777217))), ['open', 'input too long']
-  );
   assert.throws(() => checker.check(PICTURE, CERTIFICATE, {published: [[1]]}), TypeError);
   const two = 'P3 2 1 255 0 0 0 9 9 9\n', plain = 'nonocert 1\nline r 1\ndone\n';
   assert.equal(answerOf(checker, two, plain).status, 0);
   assert.equal(
       answerOf(checker, two, plain, {background: '0,00,0'}).text, 'certificate NotDone at line 3'
+  );
+});
+
+// The script of an older release says 'open' for each of these kinds.
+test('what is refused, and how it is said', {skip: waits('0.8.0')}, async () => {
+  const checker = await load(await WebAssembly.compile(bytes));
+  const background = ['option', 'background must be R,G,B'];
+  for (const wrong of ['', '1,2', '1,2,3,4', 'red', '1,2,65536', '1,2,-3', '000255,0,0']) {
+    assert.deepEqual(
+        faultOf(() => checker.check(PICTURE, CERTIFICATE, {background: wrong})), background
+    );
+  }
+  assert.deepEqual(faultOf(() => checker.flaws(PICTURE, {background: '1,2'})), background);
+  assert.deepEqual(
+      faultOf(() => checker.check(PICTURE, ' '.repeat(16777217))), ['length', 'input too long']
+  );
+  assert.throws(
+      () => checker.flaws('P4\n'),
+      {kind: 'picture', name: 'NotP3', text: 'ppm NotP3 at byte 0', byte: 0, line: null}
   );
 });
 
@@ -110,11 +120,6 @@ test('flaws that show without a search', async () => {
   assert.deepEqual(
       checker.flaws('P3 3 1 255 254 254 254 0 0 0 1 1 1\n', {background: '255,255,255'}),
       ['background', 'alike . a', 'alike b c']
-  );
-  assert.deepEqual(faultOf(() => checker.flaws('P4\n')), ['open', 'ppm NotP3 at byte 0']);
-  assert.deepEqual(
-      faultOf(() => checker.flaws(PICTURE, {background: '1,2'})),
-      ['open', 'background must be R,G,B']
   );
   // Sixteen greys from white on, all alike: as many pairs as there can be.
   const greys = Array.from({length: 16}, (_, at) => `${255 - at} ${255 - at} ${255 - at}`),

@@ -145,8 +145,18 @@ export interface Engine {
 
 /** Why a call was not answered. */
 export class Fault extends Error {
-  /** 'open': the input was refused; 'memory': out of memory; 'closed': the bench was closed; 'ended': the module cannot be used any more. */
-  readonly kind: 'open' | 'memory' | 'closed' | 'ended';
+  /**
+   * The file that was refused: 'picture' (also a .non text), 'certificate' or 'givens'; 'length': an input is too long; 'option': a wrong
+   * option; 'memory': out of memory; 'closed': the bench was closed; 'ended': the module cannot be used any more; 'timeout': a worker's
+   * limit was exceeded.
+   */
+  readonly kind: 'picture' | 'certificate' | 'givens' | 'length' | 'option' | 'memory' | 'closed' | 'ended' | 'timeout';
+  /** The error's name, such as 'UnpublishedGiven'; 'TooLong' for a length, 'TimeoutError' for a timeout, and otherwise 'Fault'. */
+  readonly name: string;
+  /** Where the picture is wrong, from 0; null if there is no such place. */
+  readonly byte: number | null;
+  /** Where the certificate or the givens are wrong, from 1; null if there is no such place. */
+  readonly line: number | null;
   /** What the program says. */
   readonly text: string;
   constructor(kind: Fault['kind'], text: string);
@@ -185,5 +195,5 @@ export interface Look {
 /** The path of line logic, of its text as a session prints it for `path`. Throws a TypeError for another text. */
 export function readPath(text: string): { looks: Look[]; open: number };
 
-/** Makes an engine of the bytes of nonobench.wasm. */
-export function load(bytes: Uint8Array | ArrayBuffer): Promise<Engine>;
+/** Makes an engine of nonobench.wasm: its bytes, or what WebAssembly.compile makes of them. */
+export function load(module: Uint8Array | ArrayBuffer | WebAssembly.Module): Promise<Engine>;

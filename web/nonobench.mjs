@@ -30,18 +30,41 @@ const ROOM = 65536;
 // Where the handle of a bench lies, behind the desk's pointer in its cell.
 const HANDLE_AT = 8n;
 
+// What the program says of a file that is refused: its kind, the error's name, and its place.
+const REFUSAL = /^(ppm|non|givens|certificate) (\w+)(?: at byte (\d+)| at line (\d+))?$/;
+const KINDS = {
+  ppm: 'picture',
+  non: 'picture',
+  givens: 'givens',
+  certificate: 'certificate'
+};
+const NAMES = {
+  length: 'TooLong',
+  timeout: 'TimeoutError'
+};
+
+const placeOf = (digits) => (digits === undefined ? null : Number(digits));
+
 /**
- * Why a call was not answered. `kind` is 'open', 'memory', 'closed' or 'ended', and `text` what
- * the program says.
+ * Why a call was not answered. `kind` is what was refused: 'picture', 'certificate', 'givens',
+ * 'length' or 'option'; or 'memory', 'closed', 'ended' or 'timeout'. `name` is the error's name,
+ * such as 'UnpublishedGiven', and 'Fault' if it has none. `text` is what the program says, and
+ * `byte` or `line` the place in the file.
  */
 export class Fault extends Error {
   constructor(kind, text) {
     super(text);
-    this.name = 'Fault';
+    const [, , name, byte, line] = REFUSAL.exec(text) ?? [];
+    this.name = name ?? NAMES[kind] ?? 'Fault';
     this.kind = kind;
     this.text = text;
+    this.byte = placeOf(byte);
+    this.line = placeOf(line);
   }
 }
+
+// Why a file is refused, as the program says it.
+const refusalOf = (text) => new Fault(KINDS[REFUSAL.exec(text)?.[1]] ?? 'picture', text);
 
 const encoder = new TextEncoder();
 const decoder = new TextDecoder();
@@ -63,9 +86,9 @@ function bytesOf(input) {
 function inputOf(input) {
   // A text has as many bytes as letters, or more.
   if ((typeof input === 'string' ? input.length : input?.byteLength) > MOST_BYTES)
-    throw new Fault('open', 'input too long');
+    throw new Fault('length', 'input too long');
   const bytes = bytesOf(input);
-  if (bytes.length > MOST_BYTES) throw new Fault('open', 'input too long');
+  if (bytes.length > MOST_BYTES) throw new Fault('length', 'input too long');
   return bytes;
 }
 
@@ -74,7 +97,7 @@ function backgroundOf(options) {
   const word = own(options, 'background');
   if (word === undefined || word === null) return '';
   const text = String(word);
-  if (!/^[0-9]+,[0-9]+,[0-9]+$/.test(text)) throw new Fault('open', 'background must be R,G,B');
+  if (!/^[0-9]+,[0-9]+,[0-9]+$/.test(text)) throw new Fault('option', 'background must be R,G,B');
   return text;
 }
 
@@ -94,7 +117,7 @@ function publishedOf(options) {
   const cells = own(options, 'published');
   if (cells === undefined || cells === null) return NONE;
   if (!Array.isArray(cells)) return inputOf(cells);
-  if (cells.length > MOST_CELLS) throw new Fault('open', 'input too long');
+  if (cells.length > MOST_CELLS) throw new Fault('length', 'input too long');
   let lines = '';
   for (let at = 0; at < cells.length; at++) {
     const place = own(cells, at),
@@ -118,8 +141,9 @@ const isAnyGiven = (options) => own(options, 'anyGiven') === true;
 function isNonFor(bytes, options, background) {
   const format = own(options, 'format') ?? null,
         non = format === null ? isNon(bytes) : format === 'non';
-  if (![null, 'ppm', 'non'].includes(format)) throw new Fault('open', 'format must be ppm or non');
-  if (non && background.length > 0) throw new Fault('open', 'background goes with ppm');
+  if (![null, 'ppm', 'non'].includes(format))
+    throw new Fault('option', 'format must be ppm or non');
+  if (non && background.length > 0) throw new Fault('option', 'background goes with ppm');
   return non;
 }
 
@@ -267,7 +291,7 @@ class Engine {
   open(file, options = {}) {
     const bytes = inputOf(file), history = own(options, 'history') ?? 100;
     if (!Number.isInteger(history) || history < 1 || history > 1000)
-      throw new Fault('open', 'history must be 1 to 1000');
+      throw new Fault('option', 'history must be 1 to 1000');
     const background = this.#background(options), non = isNonFor(bytes, options, background);
     // Each bench has a desk of its own, which ends in a moment, however many others are open.
     const cell = this.#desk();
@@ -320,7 +344,7 @@ class Engine {
     const allowance = own(options, 'allowance') ?? NO_ALLOWANCE;
     if (allowance !== NO_ALLOWANCE &&
         !(Number.isInteger(allowance) && allowance >= 0 && allowance <= MOST_SPLITS)) {
-      throw new Fault('open', `allowance must be 0 to ${MOST_SPLITS}`);
+      throw new Fault('option', `allowance must be 0 to ${MOST_SPLITS}`);
     }
     const published = publishedOf(options), certificate = own(options, 'certificate') ?? null;
     const status = this.#lend(
@@ -354,7 +378,7 @@ class Engine {
   prove(picture, options = {}) {
     const background = this.#background(options), format = own(options, 'format') ?? 2,
           complete = own(options, 'complete') === true ? 1 : 0;
-    if (format !== 1 && format !== 2) throw new Fault('open', 'format must be 1 or 2');
+    if (format !== 1 && format !== 2) throw new Fault('option', 'format must be 1 or 2');
     const status = this.#lend(
         [inputOf(picture), publishedOf(options), background],
         ([file, listed, word]) => this.#calls.nonobench_prove(
@@ -443,8 +467,8 @@ class Engine {
 
   #refuse(status, cell = this.#cell) {
     if (status === MEMORY) throw new Fault('memory', 'memory');
-    if (status === OPTIONS) throw new Fault('open', 'background must be R,G,B');
-    throw new Fault('open', this.#text(cell));
+    if (status === OPTIONS) throw new Fault('option', 'background must be R,G,B');
+    throw refusalOf(this.#text(cell));
   }
 
   // The text of the last call on a desk.
@@ -530,11 +554,16 @@ class Bench {
   }
 }
 
-/** Makes an engine of the bytes of nonobench.wasm. */
-export async function load(bytes) {
-  const {instance} = await WebAssembly.instantiate(bytes, {});
-  return new Engine(instance);
+/** Makes an engine of nonobench.wasm: its bytes, or what WebAssembly.compile makes of them. */
+export async function load(module) {
+  return new Engine(await instanceOf(module));
+}
+
+// An instance of a module, of its bytes or compiled.
+async function instanceOf(module) {
+  const made = await WebAssembly.instantiate(module, {});
+  return made.instance ?? made;
 }
 
 // What web/check.mjs takes over.
-export {backgroundOf, checkedOf, inputOf, isAnyGiven, publishedOf, Runs};
+export {backgroundOf, checkedOf, inputOf, instanceOf, isAnyGiven, publishedOf, refusalOf, Runs};

@@ -79,19 +79,19 @@ test('a picture and a puzzle are opened and answer', async () => {
 
 test('what files, options and words are refused, and how it is said', async () => {
   const engine = await fresh();
-  assert.deepEqual(faultOf(() => engine.open('P4\n')), ['open', 'ppm NotP3 at byte 0']);
-  assert.deepEqual(faultOf(() => engine.open('')), ['open', 'ppm NotP3 at byte 0']);
-  assert.deepEqual(faultOf(() => engine.open('width 2\n')), ['open', 'non MissingSize']);
+  assert.deepEqual(faultOf(() => engine.open('P4\n')), ['picture', 'ppm NotP3 at byte 0']);
+  assert.deepEqual(faultOf(() => engine.open('')), ['picture', 'ppm NotP3 at byte 0']);
+  assert.deepEqual(faultOf(() => engine.open('width 2\n')), ['picture', 'non MissingSize']);
   assert.deepEqual(
-      faultOf(() => engine.open('width 2\n', {format: 'ppm'})), ['open', 'ppm NotP3 at byte 0']
+      faultOf(() => engine.open('width 2\n', {format: 'ppm'})), ['picture', 'ppm NotP3 at byte 0']
   );
   assert.deepEqual(
       faultOf(() => engine.open('width 1\nheight 1\nrows\n1\ncolumns\n0\n')),
-      ['open', 'no picture has these clues']
+      ['picture', 'no picture has these clues']
   );
   for (const format of ['', 'NON', 'ppm ', 'xml', 1, ['non'], false]) {
     assert.deepEqual(
-        faultOf(() => engine.open(PUZZLE, {format})), ['open', 'format must be ppm or non']
+        faultOf(() => engine.open(PUZZLE, {format})), ['option', 'format must be ppm or non']
     );
   }
   for (const text of [PUZZLE, `Puzzle by Ann\n${PUZZLE}`])
@@ -101,27 +101,27 @@ test('what files, options and words are refused, and how it is said', async () =
     );
   for (const history of [0, 1001, 1.5, NaN, '5']) {
     assert.deepEqual(
-        faultOf(() => engine.open(DIAGONAL, {history})), ['open', 'history must be 1 to 1000']
+        faultOf(() => engine.open(DIAGONAL, {history})), ['option', 'history must be 1 to 1000']
     );
   }
   for (const background of ['', '1,2', '1,2,3,4', 'red', '1,2,65536', '1,2,-3']) {
     assert.deepEqual(
-        faultOf(() => engine.open(DIAGONAL, {background})), ['open', 'background must be R,G,B']
+        faultOf(() => engine.open(DIAGONAL, {background})), ['option', 'background must be R,G,B']
     );
     assert.deepEqual(
         faultOf(() => engine.check(DIAGONAL, '', {background, anyGiven: true})),
-        ['open', 'background must be R,G,B']
+        ['option', 'background must be R,G,B']
     );
     assert.deepEqual(
-        faultOf(() => engine.prove(DIAGONAL, {background})), ['open', 'background must be R,G,B']
+        faultOf(() => engine.prove(DIAGONAL, {background})), ['option', 'background must be R,G,B']
     );
   }
   assert.deepEqual(
       faultOf(() => engine.open(PUZZLE, {background: '0,0,0'})),
-      ['open', 'background goes with ppm']
+      ['option', 'background goes with ppm']
   );
   assert.deepEqual(
-      faultOf(() => engine.open(new Uint8Array(16777217))), ['open', 'input too long']
+      faultOf(() => engine.open(new Uint8Array(16777217))), ['length', 'input too long']
   );
   assert.throws(() => engine.open(5), TypeError);
   assert.equal(engine.open(DIAGONAL, {background: null}).say('verdict\n'), 'ambiguous\n.a\na.\n');
@@ -161,8 +161,8 @@ test('the clues of a picture and a puzzle, and each growth refused in turn', asy
   assert.equal(
       engine.clues('P3 2 1 255 1 2 3 4 5 6\n', {background: '4,5,6'}), 'r 1: 1a\nc 1: 1a\nc 2: 0\n'
   );
-  assert.deepEqual(faultOf(() => engine.clues('P4\n')), ['open', 'ppm NotP3 at byte 0']);
-  assert.deepEqual(faultOf(() => engine.clues('width 2\n')), ['open', 'non MissingSize']);
+  assert.deepEqual(faultOf(() => engine.clues('P4\n')), ['picture', 'ppm NotP3 at byte 0']);
+  assert.deepEqual(faultOf(() => engine.clues('width 2\n')), ['picture', 'non MissingSize']);
   const {answer, refused} = refusedInTurn(engine, () => engine.clues(DIAGONAL));
   assert.equal(answer, clues);
   assert.ok(refused > 10, `${refused}`);
@@ -579,30 +579,32 @@ test(
     async () => {
       const engine = await fresh();
       const refused = (puzzle, options) => faultOf(() => engine.assess(puzzle, options));
-      assert.deepEqual(refused('P4\n'), ['open', 'ppm NotP3 at byte 0']);
-      assert.deepEqual(refused('width 1\nheight 1\nrows\n1\ncolumns\n1\n'), ['open', 'non NoGoal']);
+      assert.deepEqual(refused('P4\n'), ['picture', 'ppm NotP3 at byte 0']);
       assert.deepEqual(
-          refused(PUZZLE, {background: '0,0,0'}), ['open', 'background goes with ppm']
+          refused('width 1\nheight 1\nrows\n1\ncolumns\n1\n'), ['picture', 'non NoGoal']
       );
       assert.deepEqual(
-          refused(DIAGONAL, {background: 'white'}), ['open', 'background must be R,G,B']
+          refused(PUZZLE, {background: '0,0,0'}), ['option', 'background goes with ppm']
       );
       assert.deepEqual(
-          refused(DIAGONAL, {published: [[3, 1]]}), ['open', 'givens Place at line 1']
+          refused(DIAGONAL, {background: 'white'}), ['option', 'background must be R,G,B']
       );
-      assert.deepEqual(refused(DIAGONAL, {published: 'any'}), ['open', 'givens BadLine at line 1']);
+      assert.deepEqual(refused(DIAGONAL, {published: [[3, 1]]}), ['givens', 'givens Place at line 1']);
+      assert.deepEqual(refused(DIAGONAL, {published: 'any'}), ['givens', 'givens BadLine at line 1']);
       assert.deepEqual(
-          refused(DIAGONAL, {certificate: ''}), ['open', 'certificate NotCert at line 1']
+          refused(DIAGONAL, {certificate: ''}), ['certificate', 'certificate NotCert at line 1']
       );
       assert.deepEqual(
           refused(DIAGONAL, {certificate: text('examples', 'given.ppm.cert')}),
-          ['open', 'certificate UnpublishedGiven at line 2']
+          ['certificate', 'certificate UnpublishedGiven at line 2']
       );
       for (const allowance of [-1, 100000, 1.5, NaN, '5'])
-        assert.deepEqual(refused(DIAGONAL, {allowance}), ['open', 'allowance must be 0 to 99999']);
-      assert.deepEqual(refused(new Uint8Array(16777217)), ['open', 'input too long']);
+        assert.deepEqual(
+            refused(DIAGONAL, {allowance}), ['option', 'allowance must be 0 to 99999']
+        );
+      assert.deepEqual(refused(new Uint8Array(16777217)), ['length', 'input too long']);
       assert.deepEqual(
-          refused(DIAGONAL, {published: new Uint8Array(16777217)}), ['open', 'input too long']
+          refused(DIAGONAL, {published: new Uint8Array(16777217)}), ['length', 'input too long']
       );
       assert.throws(() => engine.assess(DIAGONAL, {published: [[1]]}), TypeError);
       assert.throws(() => engine.assess(null), TypeError);
@@ -781,7 +783,7 @@ test('a certificate is accepted, and what is wrong is said', async () => {
   for (const long of[' '.repeat(16777217), Array(14401).fill([1, 1])])
     assert.deepEqual(
         faultOf(() => engine.check(picture, certificate, {published: long})),
-        ['open', 'input too long']
+        ['length', 'input too long']
     );
   assert.equal(
       engine.check(picture, certificate, {published: Array(14400).fill([1, 1])}).text,
@@ -846,13 +848,13 @@ test('a certificate is made with exactly the cells that are published', async ()
       assert.equal(engine.check(DIAGONAL, certificate, {published}).accepted, true);
     }
   }
-  for (const [options, text] of [
-           [{published: [[3, 1]]}, 'givens Place at line 1'],
-           [{published: 'all'}, 'givens BadLine at line 1'],
-           [{format: 3}, 'format must be 1 or 2'],
-           [{format: '1'}, 'format must be 1 or 2'],
-           [{background: 'red'}, 'background must be R,G,B']])
-    assert.deepEqual(faultOf(() => engine.prove(DIAGONAL, options)), ['open', text]);
+  for (const [options, ...wanted] of [
+           [{published: [[3, 1]]}, 'givens', 'givens Place at line 1'],
+           [{published: 'all'}, 'givens', 'givens BadLine at line 1'],
+           [{format: 3}, 'option', 'format must be 1 or 2'],
+           [{format: '1'}, 'option', 'format must be 1 or 2'],
+           [{background: 'red'}, 'option', 'background must be R,G,B']])
+    assert.deepEqual(faultOf(() => engine.prove(DIAGONAL, options)), wanted);
   assert.throws(() => engine.prove(DIAGONAL, {published: [[1]]}), TypeError);
 });
 
@@ -861,7 +863,7 @@ test(
     async () => {
       const engine = await fresh(), picture = pictureOf('a./.b');
       assert.deepEqual(engine.prove(DIAGONAL), {ruling: 'ambiguous', certificate: null});
-      assert.deepEqual(faultOf(() => engine.prove('P4\n')), ['open', 'ppm NotP3 at byte 0']);
+      assert.deepEqual(faultOf(() => engine.prove('P4\n')), ['picture', 'ppm NotP3 at byte 0']);
       const {ruling, certificate} =
           engine.prove(new TextEncoder().encode(picture), {background: null});
       assert.deepEqual([ruling, certificate.slice(0, 12)], ['unique', 'nonolemma 2\n']);
@@ -1149,6 +1151,52 @@ test(
     }
 );
 
+test('an error says what was refused, its name and its place', async () => {
+  const engine = await fresh();
+  const given = 'nonocert 2\ngiven 1 1\nline r 1\nline c 1\nline r 2\ndone\n';
+  for (const [call, ...told] of [
+           [() => engine.open('P3 1 1 1 0 0 2'), 'picture', 'SampleOver', 13, null],
+           [() => engine.assess('width 2\n'), 'picture', 'MissingSize', null, null],
+           [() => engine.prove('P6'), 'picture', 'NotP3', 0, null],
+           [
+             () => engine.open('width 1\nheight 1\nrows\n1\ncolumns\n0\n'),
+            'picture',
+            'Fault',
+            null,
+            null
+           ],
+           [() => engine.assess(DIAGONAL, {published: [[1, 3]]}), 'givens', 'Place', null, 1],
+           [
+             () => engine.assess(DIAGONAL, {certificate: 'nonocert 1\nline r 3\n'}),
+            'certificate',
+            'Place',
+            null,
+            2
+           ],
+           [
+             () => engine.assess(DIAGONAL, {certificate: given}),
+            'certificate',
+            'UnpublishedGiven',
+            null,
+            2
+           ],
+           [() => engine.clues(' '.repeat(16777217)), 'length', 'TooLong', null, null],
+           [() => engine.open(DIAGONAL, {history: 0}), 'option', 'Fault', null, null]]) {
+    assert.throws(call, (fault) => {
+      assert.ok(fault instanceof Fault && fault.message === fault.text);
+      assert.deepEqual([fault.kind, fault.name, fault.byte, fault.line], told);
+      return true;
+    });
+  }
+});
+
+test('an engine is made of a module that is compiled, too', async () => {
+  const module = await WebAssembly.compile(bytes);
+  const engines = [await load(module), await load(module)];
+  for (const engine of engines) assert.equal(engine.clues('P3 1 1 1 0 0 0'), 'r 1: 1a\nc 1: 1a\n');
+  assert.notEqual(engines[0].open(DIAGONAL), engines[1].open(DIAGONAL));
+});
+
 test('any bytes are answered, and the module goes on', async () => {
   const engine = await fresh();
   let seed = 1;
@@ -1166,7 +1214,7 @@ test('any bytes are answered, and the module goes on', async () => {
         try {
           engine.open(file, {format}).close();
         } catch (fault) {
-          assert.equal(fault.kind, 'open');
+          assert.equal(fault.kind, 'picture');
         }
       }
       assert.equal(typeof engine.check(file, noise).text, 'string');

@@ -1,6 +1,6 @@
-// The module for browsers and bundlers: as nonobench.mjs, but `load` needs no bytes, since
+// The module for browsers and bundlers: as nonobench.mjs, but `load` needs no module, since
 // nonobench.wasm is served beside this file.
-import {load as loadBytes} from './nonobench.mjs';
+import {load as loadModule} from './nonobench.mjs';
 
 export * from './nonobench.mjs';
 
@@ -11,7 +11,7 @@ async function own() {
   return answer.arrayBuffer();
 }
 
-/** Makes an engine: of the package's own module where no bytes are given. */
-export async function load(bytes) {
-  return loadBytes(bytes ?? await own());
+/** Makes an engine: of the package's own module where none is given. */
+export async function load(module) {
+  return loadModule(module ?? await own());
 }

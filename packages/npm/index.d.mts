@@ -1,7 +1,7 @@
-// What the package offers: as nonobench.d.mts, but `load` needs no bytes.
+// What the package offers: as nonobench.d.mts, but `load` needs no module.
 import type { Engine } from './nonobench.mjs';
 
 export * from './nonobench.mjs';
 
-/** Makes an engine: of the package's own module where no bytes are given. */
-export function load(bytes?: Uint8Array | ArrayBuffer): Promise<Engine>;
+/** Makes an engine: of the package's own module where none is given. */
+export function load(module?: Uint8Array | ArrayBuffer | WebAssembly.Module): Promise<Engine>;

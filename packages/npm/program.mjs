@@ -22,6 +22,9 @@ async function check({files, givens, options: {background}}) {
   write(text);
 }
 
+// The kinds of faults of files.
+const FILES = ['picture', 'certificate', 'givens'];
+
 // The block of a puzzle's file, and its status: 0 if the puzzle is fit, 1 if it is not or is
 // refused, 3 if it could not be read.
 function blockOf(engine, path, options) {
@@ -29,7 +32,7 @@ function blockOf(engine, path, options) {
     const {text, fit} = engine.assess(readFile(path), options);
     return [text, fit ? 0 : 1];
   } catch (error) {
-    if (error instanceof Fault && error.kind === 'open') return [`refused ${error.text}\n`, 1];
+    if (error instanceof Fault && FILES.includes(error.kind)) return [`refused ${error.text}\n`, 1];
     if (!(error instanceof Ending)) throw error;
     return error.status === 3 ? ['refused read\n', 3] : ['refused too long\n', 1];
   }
@@ -47,8 +50,6 @@ const TASKS = {
   },
 
   check,
-
-  verify: check,  // its old name
 
   async assess({files, givens, certificate, options: {format, background, allowance}}) {
     const [published, lines] =

@@ -14,7 +14,8 @@ const root = join(dirname(fileURLToPath(import.meta.url)), '..', '..');
 const folder = resolve(process.env.PACKAGE);
 const native = resolve(process.env.NONOBENCH);
 const program = join(folder, 'program.mjs');
-const {readWords} = await import(pathToFileURL(join(folder, 'words.mjs')));
+const own = (name) => import(pathToFileURL(join(folder, name)));
+const {readWords} = await own('words.mjs');
 const help = JSON.parse(readFileSync(join(folder, 'help.json'), 'utf8'));
 const PATIENCE = 300000;  // milliseconds after which a test counts as one that does not end
 const example = (name) => join(root, 'examples', name);
@@ -57,7 +58,6 @@ function asked(args) {
 const PIECES = [
   'work',
   'check',
-  'verify',
   'assess',
   'prove',
   'help',
@@ -126,7 +126,7 @@ test('arguments are taken and refused as by the native program', () => {
   for (let time = 0; time < 2000; time += 1) {
     const front = chance.below(4) === 0 ?
         [] :
-        [['work', 'check', 'verify', 'assess', 'prove', 'help'][chance.below(6)]];
+        [['work', 'check', 'assess', 'prove', 'help'][chance.below(5)]];
     const args = front.concat(
         Array.from({length: chance.below(5)}, () => PIECES[chance.below(PIECES.length)])
     );
@@ -273,6 +273,7 @@ test('the package is imported by its name, and brings its module', async (t) => 
     import { readFile } from 'node:fs/promises';
     import { createRequire } from 'node:module';
     import { Fault, load } from 'nonobench';
+    import { Worker } from 'nonobench/worker';
     const engine = await load();
     const other = await load(await readFile(createRequire(import.meta.url).resolve('nonobench/nonobench.wasm')));
     const [picture, certificate] = await Promise.all(process.argv.slice(2).map((name) => readFile(name)));
@@ -280,6 +281,9 @@ test('the package is imported by its name, and brings its module', async (t) => 
       console.log(check.accepted, check.text.trim(), version);
     }
     try { engine.open('P6'); } catch (fault) { console.log(fault instanceof Fault, fault.text); }
+    const worker = new Worker({ seconds: 300 });
+    console.log((await worker.check(picture, certificate)).accepted, await worker.version);
+    await worker.open('P6').catch((fault) => console.log(fault instanceof Fault, fault.name));
   `);
   const {stdout, stderr} = spawnSync(
       process.execPath,
@@ -289,26 +293,111 @@ test('the package is imported by its name, and brings its module', async (t) => 
   const version = done(['--version']).wrote.trim().split(' ')[1];
   assert.equal(
       stdout,
-      `true certificate accepted ${version}\n`.repeat(2) + 'true ppm NotP3 at byte 0\n',
+      `true certificate accepted ${version}\n`.repeat(2) + 'true ppm NotP3 at byte 0\n' +
+          `true ${version}\ntrue NotP3\n`,
       stderr
   );
+});
+
+// Two rows, black and white, white and black: another picture has the clues, and a given decides
+// it.
+const DIAGONAL = 'P3 2 2 255 0 0 0 255 255 255 255 255 255 0 0 0\n';
+const GIVEN = 'nonocert 2\ngiven 1 1\nline r 1\nline c 1\nline r 2\ndone\n';
+// A chequerboard in four colours, for which a search for a certificate takes minutes.
+const INKS = ['1 1 1', '0 0 0', '1 0 0', '0 0 1'];
+const ENDLESS = `P3 60 60 1 ${
+    Array.from({length: 3600}, (_, at) => INKS[(Math.floor(at / 60) + at) % 4]).join(' ')}\n`;
+
+// What a call answers, however busy the machine is: one that was too late is called again.
+async function eventually(call) {
+  for (const until = Date.now() + PATIENCE;;) {
+    try {
+      return await call();
+    } catch (fault) {
+      if (fault.kind !== 'timeout' || Date.now() > until) throw fault;
+    }
+  }
+}
+
+test('a worker answers as an engine does', async (t) => {
+  const {Worker} = await own('worker.mjs'), {Fault, load} = await own('node.mjs');
+  const engine = await load(), worker = new Worker({seconds: 300});
+  t.after(() => worker.close());
+  for (const ask
+           of [(it) => it.check(DIAGONAL, GIVEN),
+              (it) => it.check(DIAGONAL, GIVEN, {anyGiven: true}),
+              (it) => it.assess(new TextEncoder().encode(DIAGONAL), {published: [[1, 1]]}),
+              (it) => it.prove('P3 1 1 1 0 0 0'),
+              (it) => it.clues(DIAGONAL, {background: '0,0,0'}),
+              (it) => it.version]) {
+    assert.deepEqual(await ask(worker), ask(engine));
+  }
+  for (const [call, kind, name] of [
+           [() => worker.open('P6'), 'picture', 'NotP3'],
+           [() => worker.assess(DIAGONAL, {certificate: GIVEN}), 'certificate', 'UnpublishedGiven'],
+           [() => worker.open(DIAGONAL, {history: 0}), 'option', 'Fault']]) {
+    await assert.rejects(call(), (fault) => {
+      assert.deepEqual([fault instanceof Fault, fault.kind, fault.name], [true, kind, name]);
+      return true;
+    });
+  }
+  await assert.rejects(worker.check(1, 2), TypeError);
+  await assert.rejects(worker.clues(() => {}), {name: 'DataCloneError'});
+  const bytes = new TextEncoder().encode(DIAGONAL), asked = worker.clues(bytes);
+  bytes.fill(0);
+  assert.equal(await asked, engine.clues(DIAGONAL));
+});
+
+test('a bench of a worker answers until it or its worker ends', async (t) => {
+  const {Worker} = await own('worker.mjs'), worker = new Worker({seconds: 300});
+  t.after(() => worker.close());
+  const [one, other] = await Promise.all([worker.open(DIAGONAL), worker.open(DIAGONAL)]);
+  assert.equal(await one.say('pin 1 1\nverdict\n'), 'ok\nunique\n');
+  assert.equal(await other.say('verdict\n'), 'ambiguous\n.a\na.\n');
+  await one.close();
+  await assert.rejects(one.say('verdict\n'), {kind: 'closed'});
+  const asked = [other.say('verdict\n'), worker.version];
+  worker.close();
+  for (const call of asked) await assert.rejects(call, {kind: 'closed'});
+  await assert.rejects(other.say('verdict\n'), {kind: 'ended'});
+  assert.equal(await (await worker.open(DIAGONAL)).say('undo\n'), 'refused: UndoEmpty\n');
+});
+
+test('a call that takes too long ends the worker, and the next one starts another', async (t) => {
+  const {Worker} = await own('worker.mjs'), worker = new Worker({seconds: 2});
+  t.after(() => worker.close());
+  const bench = await eventually(() => worker.open(DIAGONAL));
+  // The second waits for its turn as long.
+  const late = {kind: 'timeout', name: 'TimeoutError', text: 'no answer within 2 seconds'};
+  const asked = [worker.prove(ENDLESS), worker.clues(DIAGONAL)];
+  for (const call of asked) await assert.rejects(call, late);
+  await assert.rejects(bench.say('verdict\n'), {kind: 'ended'});
+  const clues = await eventually(() => worker.clues(DIAGONAL));
+  assert.equal(clues, 'r 1: 1a\nr 2: 1a\nc 1: 1a\nc 2: 1a\n');
+  for (const seconds of [0, -1, NaN, Infinity, '5'])
+    assert.throws(() => new Worker({seconds}), {kind: 'option'});
+});
+
+test('a module that cannot be loaded in a worker is told', async (t) => {
+  const place = ownFolder(t);
+  assert.equal(spawnSync('cp', ['-r', `${folder}/.`, place]).status, 0);
+  rmSync(join(place, 'nonobench.wasm'));
+  const {Worker} = await import(pathToFileURL(join(place, 'worker.mjs')));
+  const worker = new Worker({seconds: 300});
+  for (let turn = 0; turn < 2; turn += 1)
+    await assert.rejects(worker.version, {kind: 'ended', text: /^the module cannot be loaded: /});
+  rmSync(join(place, 'thread.mjs'));
+  await assert.rejects(worker.version, {kind: 'ended'});
 });
 
 test('a certificate that an editor changed is told so, on a line of its own', (t) => {
   const file = join(ownFolder(t), 'crlf.cert');
   writeFileSync(file, readFileSync(example('diagonal.ppm.cert'), 'utf8').replaceAll('\n', '\r\n'));
-  for (const word of ['check', 'verify']) {
-    const {status, stdout, stderr} = spawnSync(
-        process.execPath, [program, word, example('diagonal.ppm'), file], {encoding: 'utf8'}
-    );
-    assert.deepEqual([status, stdout, stderr], [
-      1,
-      '',
-      `${
-          done([word, example('diagonal.ppm'), file]
-          ).said}nonobench: its lines end with CR LF, and must end with LF alone\n`
-    ]);
-  }
+  const args = ['check', example('diagonal.ppm'), file];
+  const {status, stdout, stderr} =
+      spawnSync(process.execPath, [program, ...args], {encoding: 'utf8'});
+  const hint = 'nonobench: its lines end with CR LF, and must end with LF alone\n';
+  assert.deepEqual([status, stdout, stderr], [1, '', done(args).said + hint]);
 });
 
 test('a module that fails is told, with a status', (t) => {

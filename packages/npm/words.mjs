@@ -24,7 +24,6 @@ const COMMANDS = {
     options: {...HELP, ...BACKGROUND, format: {type: 'string'}, history: {type: 'string'}}
   },
   check: CHECK,
-  verify: CHECK,  // its old name
   assess: {
     files: Infinity,
     options: {
@@ -168,10 +167,10 @@ const asksAlone = (args) => args.length === 1 ||
     (args.length === 2 && (args[0] === 'help' || args[1] === '-h' || args[1] === '--help'));
 
 /**
- * What the arguments ask for: {task}, which is 'clues', 'work', 'check', 'verify', 'assess',
- * 'prove', 'help' or 'version', with {files, givens, certificate, complete, options} or {page}.
- * Throws an Ending where they are refused. Node puts U+FFFD for bytes that are not UTF-8, so an
- * argument with it is refused too.
+ * What the arguments ask for: {task}, which is 'clues', 'work', 'check', 'assess', 'prove', 'help'
+ * or 'version', with {files, givens, certificate, complete, options} or {page}. Throws an Ending
+ * where they are refused. Node puts U+FFFD for bytes that are not UTF-8, so an argument with it is
+ * refused too.
  */
 export function readWords(args) {
   if (args.some((word) => word.includes('\ufffd'))) throw ended(2, 'a word is not UTF-8');

@@ -17,13 +17,13 @@ export function penWith({width, height, data}) {
   return pen;
 }
 
-/** Draws a document small on a canvas, some pixels a cell. */
+/** Draws a document small on a canvas, some pixels a cell; cells with '?' are left out. */
 export function drawSmall(canvas, doc, most) {
   const side = Math.max(1, Math.floor(most / Math.max(doc.rows, doc.columns)));
   const {colours} = eightBitDoc(doc);
-  const data = Uint8ClampedArray.from(
-      [...doc.picture.join('')].flatMap((letter) => [...colours[LETTERS.indexOf(letter)], 255])
-  );
+  const data = Uint8ClampedArray.from([...doc.picture.join('')].flatMap(
+      (letter) => (letter === '?' ? [0, 0, 0, 0] : [...colours[LETTERS.indexOf(letter)], 255])
+  ));
   const small = penWith({width: doc.columns, height: doc.rows, data});
   canvas.width = doc.columns * side;
   canvas.height = doc.rows * side;

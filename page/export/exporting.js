@@ -22,6 +22,7 @@ import {gradeAtHand} from '../view/grading.js';
 import {asSeen, heard, whileOpen} from '../view/tools.js';
 import {certificateText, secondsChosen} from '../view/verdict.js';
 import {exportPath} from './animation.js';
+import {startBooks} from './books.js';
 import {WARNINGS, startPrinting} from './printing.js';
 import {authorFor, keepAuthor, startPublishing} from './publishing.js';
 import {startSharing} from './sharing.js';
@@ -180,6 +181,7 @@ export function startExporting() {
   add('export-xml', phrase('export.webpbnXml'), () => exportText('xml'));
   add('export-site', phrase('export.siteZip'), exportForSite, {hint: phrase('export.siteServes')});
   startPrinting();
+  startBooks();
   startSharing();
   add('export-empty', phrase('export.puzzlePng'), exportEmpty);
   add('export-picture', phrase('export.picturePng'), () => exportPicture(pngCell, '-picture'));

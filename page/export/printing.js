@@ -77,7 +77,9 @@ export const puzzleOf = ({state, name}) => ({
 
 // How colours are told before one chooses: where they cannot be told apart, by letters.
 const shownFirst = (near) => (near && chosen.show === 'colours' ? 'letters' : chosen.show);
-const makersFor = (puzzles, options) =>
+
+/** What makes the sheets of puzzles, as makersOf has it. */
+export const makersFor = (puzzles, options) =>
     makersOf(puzzles.map((one) => entryOf(one, options)), {...options, texts: SHEET_TEXTS});
 
 /**
@@ -109,20 +111,23 @@ function setPaper({width, height}) {
       style.insertRule(`@page { size: ${width}mm ${height}mm; margin: 0; }`, style.cssRules.length);
 }
 
-// A sheet as a part of the page that is printed.
-const drawingOf = (svg) => document.importNode(
+/** A sheet as a part of the page. */
+export const drawingOf = (svg) => document.importNode(
     new DOMParser().parseFromString(svg, 'image/svg+xml').documentElement, true
 );
-const printedOf = ({svg, width, height}) =>
+
+/** A sheet as it is printed. */
+export const printedOf = ({svg, width, height}) =>
     ({width, height, part: make('section', {class: 'printed'}, drawingOf(svg))});
 
 /** Fills the part of the page that is printed. */
-function fillPrint(sheets) {
+export function fillPrint(sheets) {
   setPaper(sheets[0]);
   $('print').replaceChildren(...sheets.map(({part}) => part));
 }
 
-function saveSvg(name, sheets, isZip) {
+/** Saves sheets as one SVG, or as a zip of several. */
+export function saveSvg(name, sheets, isZip) {
   if (!isZip) return exportAs(name, 'svg', sheets[0].svg, '-print');
   const files = sheets.map(({svg}, at) => ({
                              name: `${name} ${String(at + 1).padStart(2, '0')}.svg`,
@@ -179,7 +184,8 @@ function libraryPart(cards) {
   return {part: cards.length ? part : '', chosen: () => [...ticked]};
 }
 
-function printFields(own, near) {
+/** The fields of what is printed, by their names, and in rows; the first is the title. */
+export function printFields(own, near) {
   const tick = (id, checked) => make('input', {type: 'checkbox', id, checked});
   const fields = {
     title: make(
@@ -221,7 +227,8 @@ function printFields(own, near) {
   return {fields, rows};
 }
 
-function readFields({paper, wide, margin, perSheet, show, answers, grade, head, order}) {
+/** What was chosen in the fields. */
+export function readFields({paper, wide, margin, perSheet, show, answers, grade, head, order}) {
   const side = Number(margin.value);
   return {
     paper: paper.value in PAPERS ? paper.value : USUAL.paper,

@@ -256,6 +256,13 @@ function answerSheets(entries, page, {show, texts}) {
   });
 }
 
+/** The size of a sheet, and its margin, in millimetres. */
+export function sizeOfSheet({paper, isWide, margin}) {
+  const [narrow, long] = PAPERS[paper];
+  const [width, height] = isWide ? [long, narrow] : [narrow, long];
+  return {width, height, margin};
+}
+
 /**
  * What makes the sheets of puzzles, a call for each: `{svg, width, height, cell}` in millimetres;
  * `cell` is its smallest cell, null for solutions. An entry is {doc, clues, title, number, head,
@@ -265,9 +272,8 @@ function answerSheets(entries, page, {show, texts}) {
  * large puzzle, of a `solution` and of the `foot` of a sheet.
  */
 export function makersOf(entries, options) {
-  const [narrow, long] = PAPERS[options.paper];
-  const [width, height] = options.isWide ? [long, narrow] : [narrow, long];
-  const page = {width, height, margin: options.margin};
+  const page = sizeOfSheet(options);
+  const {width, height} = page;
   const groups = [];  // of what is on a sheet, or one large puzzle
   for (const entry of entries) {
     const last = groups.at(-1);

@@ -4,7 +4,7 @@
 
 import {make, say} from '../base/elements.js';
 import {tell} from '../base/events.js';
-import {valueText} from '../base/words.js';
+import {opening, valueText} from '../base/words.js';
 import {iconOf} from '../draw/icons.js';
 import {Judge, Mender} from '../engine/judging.js';
 import {keep} from '../library/keep.js';
@@ -210,6 +210,7 @@ export async function showRows(rows, notes = []) {
       {name: phrase('view.close'), value: null},
       ...(puzzles.length ?
               [
+                {name: opening(phrase('export.makeBook')), value: 'book'},
                 {name: phrase('import.saveAllZip'), value: 'zip', test: () => table.saveZip()},
                 {name: phrase('import.addLibrary'), value: 'library', main: true}
               ] :
@@ -221,5 +222,6 @@ export async function showRows(rows, notes = []) {
   table.end();
   await judged;
   if (way === 'library') await keepAll(puzzles);
+  if (way === 'book') tell('book', puzzles);
   return true;
 }

@@ -27,7 +27,8 @@ import {docByItself} from './proposing.js';
 import {NOT_READ, aboutNon, docOfNon, isNonText, readPpmFile, readXmlFile} from './reading.js';
 import {takeSeveral} from './several.js';
 
-const TAKEN_KINDS =
+/** What a chooser of files offers. */
+export const TAKEN_KINDS =
     '.ppm,.pnm,.pbm,.non,.xml,.givens,.background,.cert,.zip,.gpl,.pal,.hex,.png,.jpg,.jpeg,.gif,.webp,.bmp,.avif,.svg,image/*';
 const MOST_ARCHIVE = 1 << 30;  // bytes
 
@@ -158,8 +159,8 @@ async function takeDropped(files, handle) {
   return takeAll(files, handle);
 }
 
-// The document of an image file that opens by itself; null for a file that is no image.
-async function imageDocs(file, bytes, ground) {
+/** The document of an image file that opens by itself; null for a file that is no image. */
+export async function imageDocs(file, bytes, ground) {
   const kind = kindOfFile(bytes);
   if (!IMAGES.has(kind)) return null;
   const image = await imageOfFile(file, bytes, kind);

@@ -89,10 +89,12 @@ async function guessed(copy, {picture, columns}) {
 
 /**
  * The path through a state's puzzle; `told` hears it as far as it is known. Null where nothing is
- * known of it.
+ * known of it. A search without a name gives way to all others.
  */
-export async function pathOf(state, told = null) {
-  return searches.job(phrase('play.walkThrough'), secondsChosen(), async (copy) => {
+export async function pathOf(
+    state, told = null, {name = phrase('play.walkThrough'), seconds = secondsChosen()} = {}
+) {
+  return searches.job(name, seconds, async (copy) => {
     const known = new Set();
     const guesses = [];
     let walk = new Walk(state);

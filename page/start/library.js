@@ -1,7 +1,7 @@
 // The library on the start screen: all pictures that the browser keeps, to be found, opened,
 // renamed, copied and taken away.
 
-import {$, choiceOf, make, say} from '../base/elements.js';
+import {$, buttonOf, choiceOf, make, say} from '../base/elements.js';
 import {on} from '../base/events.js';
 import {gradeName, verdictName} from '../base/names.js';
 import {cleanName, opening, sizeText} from '../base/words.js';
@@ -12,7 +12,7 @@ import {exportAll} from '../import/archives.js';
 import {keep} from '../library/keep.js';
 import {openRecord} from '../library/open.js';
 import {LANGUAGE, phrase} from '../texts/phrase.js';
-import {menuKey} from '../view/actions.js';
+import {menuKey, runAction} from '../view/actions.js';
 import {openDialog} from '../view/dialogs.js';
 
 const [MINUTE, HOUR, DAY] = [60000, 3600000, 86400000];
@@ -94,6 +94,7 @@ export function makeLibrary(goBack) {
           make('h2', {id: 'kept-title'}, phrase('start.library')),
           search,
           order,
+          buttonOf('library-book', opening(phrase('export.makeBook')), () => runAction('book')),
           make(
               'button',
               {type: 'button', id: 'library-export', onclick: exportAll},

@@ -586,6 +586,15 @@ export const DE =
       'play.playSteps': 'Abspielen',
       'play.numberCellRoundFalls':
           'Die Zahl in einem Feld ist die Runde, in der es bestimmt wird; ? braucht mehr als Linienlogik.',
+      'play.path': 'Lösungsweg',
+      'play.share': '{share} %',
+      'play.afterShare': 'Nach {share} % des Weges',
+      'play.filmSaid':
+          'Nach {at} von {count|# Schritt|# Schritten} ({share} %): {known} von {cells|# Feld|# Feldern} bekannt.',
+      'play.selectPart':
+          'Wählen Sie einen Teil aus, etwa ein Gesicht, um zu sehen, wann die Hälfte davon bekannt ist.',
+      'play.halfKnown': 'Die Hälfte der Auswahl ist bei {share} % bekannt.',
+      'play.halfOpen': 'Der Weg lässt mehr als die Hälfte der Auswahl offen.',
       // ---- library
       'library.browsersStorageFull': 'Der Speicher des Browsers ist voll',
       'library.browsersStorageLate': 'Der Speicher des Browsers öffnet sich nicht',
@@ -895,6 +904,19 @@ export const DE =
       'export.tintsAlike':
           'Die Hinweise von {pair} sehen auf Papier ähnlich aus: „Buchstaben“ unterscheidet sie.',
       'export.print': 'Drucken',
+      'export.makeBook': 'Ein Buch machen',
+      'export.bookTitle': 'Nonogramme',
+      'export.cover': 'Ein Titelblatt',
+      'export.addFiles': 'Dateien dazu …',
+      'export.addFolder': 'Ordner dazu …',
+      'export.judgedOf': '{at} von {count} beurteilt',
+      'export.bookHolds':
+          '{puzzles|# Rätsel|# Rätsel} auf {sheets|# Blatt|# Blättern}; {left|# Bild|# Bilder} nicht dabei.',
+      'export.bookSaved': '{puzzles|# Rätsel|# Rätsel} gespeichert als „{name}.zip“.',
+      'export.chooseForBook': 'Wähle zuerst ein Rätsel für das Buch.',
+      'export.gradesFromTo': '{from} bis {to}',
+      'export.sheetBefore': 'Blatt davor',
+      'export.sheetAfter': 'Blatt danach',
       'export.saveSvg': 'Als SVG speichern',
       'export.saveSvgs': 'Blätter als SVG speichern (Zip)',
       'export.printLettersSigns': '„{name}“: {near} Drucken Sie es mit Buchstaben oder Zeichen.',

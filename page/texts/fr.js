@@ -581,6 +581,15 @@ export const FR =
       'play.playSteps': 'Lire',
       'play.numberCellRoundFalls':
           'Le nombre dans une case est le tour où elle est déterminée ; ? demande plus que la logique ligne par ligne.',
+      'play.path': 'Chemin de résolution',
+      'play.share': '{share} %',
+      'play.afterShare': 'Après {share} % du chemin',
+      'play.filmSaid':
+          'Après {at} pas sur {count} ({share} %) : {known} cases sur {cells} connues.',
+      'play.selectPart':
+          'Sélectionnez une partie, un visage par exemple, pour voir quand la moitié en est connue.',
+      'play.halfKnown': 'La moitié de la sélection est connue à {share} %.',
+      'play.halfOpen': 'Le chemin laisse ouverte plus de la moitié de la sélection.',
       // ---- library
       'library.browsersStorageFull': 'La mémoire du navigateur est pleine',
       'library.browsersStorageLate': 'La mémoire du navigateur ne s’ouvre pas',
@@ -896,6 +905,20 @@ export const FR =
       'export.tintsAlike':
           'Les indices de {pair} se ressemblent sur papier : « Lettres » les distingue.',
       'export.print': 'Imprimer',
+      'export.makeBook': 'Faire un livre',
+      'export.bookTitle': 'Nonogrammes',
+      'export.cover': 'Une couverture',
+      'export.addFiles': 'Ajouter des fichiers …',
+      'export.addFolder': 'Ajouter un dossier …',
+      'export.judgedOf': '{at} sur {count} jugées',
+      'export.bookHolds':
+          '{puzzles|# grille|# de grilles|# grilles} sur {sheets|# feuille|# de feuilles|# feuilles} ; {left|# image laissée|# d’images laissées|# images laissées} de côté.',
+      'export.bookSaved':
+          '{puzzles|# grille enregistrée|# de grilles enregistrées|# grilles enregistrées} sous « {name}.zip ».',
+      'export.chooseForBook': 'Cochez d’abord une grille pour le livre.',
+      'export.gradesFromTo': '{from} à {to}',
+      'export.sheetBefore': 'Feuille précédente',
+      'export.sheetAfter': 'Feuille suivante',
       'export.saveSvg': 'Enregistrer en SVG',
       'export.saveSvgs': 'Enregistrer les feuilles en SVG (zip)',
       'export.printLettersSigns':

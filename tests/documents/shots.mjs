@@ -1,6 +1,7 @@
-// Makes the pictures of the documents in headless Chromium, and the printed sheet by pdftoppm: node
-// tests/documents/shots.mjs PAGE [NAME..] puts them into docs/, all or those of the names in SHOTS.
-// PAGE is a built page; the audit's report is docs/audit.html.
+// Makes the pictures of the documents in headless Chromium, the printed sheet by pdftoppm, and the
+// moving picture of README by ImageMagick: node tests/documents/shots.mjs PAGE [NAME..] puts them
+// into docs/, all or those of the names in SHOTS. PAGE is a built page; the audit's report is
+// docs/audit.html.
 import {spawnSync} from 'node:child_process';
 import {mkdtempSync, readFileSync, rmSync, writeFileSync} from 'node:fs';
 import {tmpdir} from 'node:os';
@@ -15,10 +16,16 @@ const MOST_MS = 60000;    // for a search
 const SETTLED_MS = 2000;  // until a dialog has its verdict
 const TAKEN_MS = 300;     // a press just after a proposal came is refused
 
+// A mouse, which headless Chromium has only if it is told so.
+const MOUSE =
+    '--blink-settings=primaryHoverType=2,availableHoverTypes=2,primaryPointerType=4,availablePointerTypes=4';
+// The pointer of the mouse, which a picture of the window does not have.
+const POINTER =
+    '<svg width="24" height="32" viewBox="0 0 12 16"><path d="M1 1v12l3-3 2 5 2-1-2-5h4z" stroke="#fff"/></svg>';
+
 const SHOTS = {
-  mended: {width: 420, height: 560, touch: true, take: mended},
+  demo: {width: 1280, height: 800, take: demo},
   icon: {width: 1280, height: 800, take: icon},
-  page: {width: 1280, height: 800, take: apple},
   import: {width: 1280, height: 800, take: imported},
   sheet: {width: 1280, height: 800, take: sheet},
   phone: {width: 390, height: 560, touch: true, take: play},
@@ -26,11 +33,17 @@ const SHOTS = {
 };
 
 /** Writes what the window shows, or the part of it within `{ x, y, width, height }`. */
-async function shoot(page, name, part) {
+async function shoot(page, name, part, folder = DOCS) {
   const {data} = await page.send(
       'Page.captureScreenshot', {format: 'png', ...(part && {clip: {...part, scale: 1}})}
   );
-  writeFileSync(join(DOCS, `${name}.png`), Buffer.from(data, 'base64'));
+  writeFileSync(join(folder, `${name}.png`), Buffer.from(data, 'base64'));
+}
+
+/** Runs a program of the system. */
+function run(program, words) {
+  const done = spawnSync(program, words, {encoding: 'utf8'});
+  if (done.status !== 0) throw new Error(`${program}: ${done.stderr ?? done.error}`);
 }
 
 async function opened(trial, name) {
@@ -38,44 +51,70 @@ async function opened(trial, name) {
   await trial.judged(MOST_MS);
 }
 
-// A picture that line logic does not settle, and the same when it is mended: the README's.
-async function mended({trial, page}) {
+/** Moves the mouse to the middle of an element, and shows its pointer there. */
+async function point(page, selector) {
+  const [x, y] = await page.run((wanted) => {
+    const box = document.querySelector(wanted).getBoundingClientRect();
+    return [box.left + box.width / 2, box.top + box.height / 2];
+  }, selector);
+  await page.mouse('mouseMoved', x, y);
+  await page.run((left, top, drawn) => {
+    document.getElementById('pointer')?.remove();
+    const pointer = document.createElement('div');
+    Object.assign(pointer, {id: 'pointer', innerHTML: drawn});
+    pointer.style =
+        `position: fixed; z-index: 9; pointer-events: none; left: ${left}px; top: ${top}px`;
+    document.body.append(pointer);
+  }, x, y, POINTER);
+  await pause(SETTLED_MS);
+}
+
+// README's moving picture: an ambiguous picture, what mends it, a card that is pointed at, and the
+// mended picture. The still for those who want no motion is that of the cards.
+async function demo({trial, page, folder}) {
   await opened(trial, 'balloon');
-  await shoot(page, 'ambiguous');
-  await page.run(() => runAction('fix'));
+  await page.run(() => document.activeElement.blur());
+  const frames = [];
+  const frame = async (seconds) => {
+    const name = `frame${frames.length}`;
+    await shoot(page, name, null, folder);
+    frames.push('-delay', String(100 * seconds), join(folder, `${name}.png`));
+  };
+  await point(page, '[data-action="fix"]');
+  await frame(2.5);
+  await page.click('[data-action="fix"]');
   await page.until(
       () => !searches.running && document.querySelector('#fix-list button') !== null, MOST_MS
   );
   await pause(TAKEN_MS);
+  await frame(2);
+  await point(page, '#fix-list button');
+  await frame(2.5);
+  await shoot(page, 'demo');
   await page.click('#fix-list button');
-  await page.until(
-      () => bench.state.verdict.word === 'unique' &&
-          document.getElementById('said').textContent !== '',
-      MOST_MS
-  );
-  await page.run(() => {
-    for (const id of ['fix-close', 'said']) document.getElementById(id).click();
-  });
-  await pause(SETTLED_MS);
-  await shoot(page, 'unique');
-}
-
-async function icon({trial, page}) {
-  await opened(trial, 'computer');
-  await shoot(page, 'icon');
-  await trial.action('fix');
-  await page.click('#fix-give');
   await page.until(
       () => bench.state.verdict.word === 'unique' &&
           document.getElementById('grade').textContent !== '–',
       MOST_MS
   );
-  await shoot(page, 'given');
+  await pause(SETTLED_MS);
+  await frame(3.5);
+  run('convert', [
+    ...frames,
+    '+dither',
+    '-colors',
+    '255',
+    '-layers',
+    'optimize',
+    '-loop',
+    '0',
+    join(DOCS, 'demo.gif')
+  ]);
 }
 
-async function apple({trial, page}) {
-  await opened(trial, 'apple');
-  await shoot(page, 'page');
+async function icon({trial}) {
+  await opened(trial, 'computer');
+  await shoot(trial.page, 'icon');
 }
 
 async function imported({page}) {
@@ -99,12 +138,7 @@ async function sheet({trial, page, folder}) {
       await page.send('Page.printToPDF', {preferCSSPageSize: true, printBackground: true});
   const pdf = join(folder, 'sheet.pdf');
   writeFileSync(pdf, Buffer.from(data, 'base64'));
-  const done = spawnSync(
-      'pdftoppm',
-      ['-png', '-singlefile', '-r', '72', '-H', '480', pdf, join(DOCS, 'sheet')],
-      {encoding: 'utf8'}
-  );
-  if (done.status !== 0) throw new Error(`pdftoppm: ${done.stderr ?? done.error}`);
+  run('pdftoppm', ['-png', '-singlefile', '-r', '60', '-H', '480', pdf, join(DOCS, 'sheet')]);
 }
 
 async function play({trial, page}) {
@@ -125,7 +159,7 @@ async function audit({page}) {
 
 const [built, ...names] = process.argv.slice(2);
 const folder = mkdtempSync(join(tmpdir(), 'nonobench-shots-'));
-const browser = new Browser(['--lang=en']);
+const browser = new Browser(['--lang=en', MOUSE]);
 try {
   const url = hookedPage(built, folder);
   for (const [name, {take, ...size}] of Object.entries(SHOTS)) {

@@ -372,7 +372,7 @@ test('an opening that fails leaves what was open', async () => {
   const {bench} = await opened();
   await bench.stroke(['paint 1 1 a']);
   await assert.rejects(
-      bench.open({text: 'P3 nonsense', background: '255,255,255', lines: []}), {kind: 'open'}
+      bench.open({text: 'P3 nonsense', background: '255,255,255', lines: []}), {kind: 'picture'}
   );
   await bench.stroke(['paint 1 2 a']);
   assert.equal(bench.state.picture[0], 'aa..');

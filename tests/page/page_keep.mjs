@@ -1105,7 +1105,7 @@ test(
         }
       };
       await exportAll();
-      assert.match(elements.said.text, /storage does not take it/);
+      assert.match(elements.said.text, /storage refuses it/);
     }
 );
 
@@ -1147,7 +1147,7 @@ test('what is done to a picture that is gone, or is refused, is told', async () 
   );
   for (const [fault, text] of [
            [new Full('x'), 'The browser\u2019s storage is full.'],
-           [new Error('x'), 'The browser\u2019s storage does not take it.']]) {
+           [new Error('x'), 'The browser\u2019s storage refuses it.']]) {
     keeper.shelf = {
       ...keeper.shelf,
       change: async () => {

@@ -337,7 +337,7 @@ export async function certificateDropped({browser, url, folder}) {
   await isOpen(page);
   await trial.judged();
   const certificate = await page.run(() => certificateText());
-  assert.match(certificate, /^nonocert 1\n/);
+  assert.match(certificate, /^nono(?:cert 1|lemma 2)\n/);
   await drop(page, own, 'cross.cert', certificate);
   await saysThat(page, 'It proves that this picture is the only solution.');
   assert.equal(await page.run(() => document.getElementById('said').dataset.kind), '');
@@ -347,12 +347,12 @@ export async function certificateDropped({browser, url, folder}) {
   await page.run(() => bench.stroke(['pin 1 1']));
   await trial.judged();
   const given = await page.run(() => certificateText());
-  assert.match(given, /^nonocert 2\ngiven 1 1\n/);
+  assert.match(given, /^nono(?:cert|lemma) 2\ngiven 1 1\n/);
   await drop(page, own, 'given.cert', given);
   await saysThat(page, 'only solution with its given cells');
   await page.run(() => bench.stroke(['unpin 1 1']));
   await drop(page, own, 'given.cert', given);
-  await saysThat(page, 'relies on given cells that this puzzle does not give');
+  await saysThat(page, 'relies on given cells that this puzzle does not have');
   await page.close();
 }
 
@@ -366,14 +366,14 @@ export async function certificateInWords({browser, url, folder}) {
     'nonocert 1\nline r 9\n':
         '(certificate Place at line 2). Its line 2 names a row, column or cell that this picture does not have.',
     'nonocert 1\nnonsense\n':
-        '(certificate BadLine at line 2). Its line 2 is no line of a certificate.',
+        '(certificate BadLine at line 2). Its line 2 is not a line of a certificate.',
     'nonocert 1\ndead r 2\n':
         '(certificate NotDead at line 2). What its line 2 rules out is possible in this picture.',
     'nonocert 1\ndone\n':
         '(certificate NotDone at line 2). At its line 2, a cell may still have another colour than in this picture.',
     'nonocert 1\nline r 1\n':
         '(certificate Ended at line 3). It ends too early: its line 3 is missing.',
-    [`${certificate}done\n`]: `. Its line ${certificate.split('\n').length} stands behind its end.`,
+    [`${certificate}done\n`]: `. Its line ${certificate.split('\n').length} comes after its end.`,
   };
   for (const [text, words] of Object.entries(wanted)) {
     await drop(page, own, 'wrong.cert', text);

@@ -115,7 +115,7 @@ export async function hatching({trial, page}) {
       await page.run(() => sheet.hatching), 'differing', 'the default where it is ambiguous'
   );
   assert.match(
-      await trial.text('#legend'), /corner has the colour of the picture that is not shown/
+      await trial.text('#legend'), /corners have the colours of the picture that is not shown/
   );
   await page.press('x');
   assert.equal(await page.run(() => sheet.other), true, 'the other picture in place');

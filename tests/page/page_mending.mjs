@@ -377,7 +377,7 @@ export async function gradeBeside({trial, page}) {
   assert.equal(await trial.judged(), 'ambiguous');
   assert.deepEqual(
       [await trial.text('#grade'), await trial.text('#publish')],
-      ['–', 'no: not unique (“Fix it” mends it)'],
+      ['–', 'no: not unique (“Fix it” repairs it)'],
       'no grade without one solution'
   );
   for (const [rows, background, flaw] of [

@@ -3,9 +3,11 @@
 import assert from 'node:assert/strict';
 import {readFileSync} from 'node:fs';
 import {fileURLToPath} from 'node:url';
+import {bookPoint} from './page_books.mjs';
 import {clean, downloaded, examples, fresh, hard, isKept, isOpen} from './page_hands.mjs';
 import {Hands} from './page_inputs.mjs';
 import {choosingPoint, palettesPoint, slidingPoint, visionPoint} from './page_coming.mjs';
+import {filmPoint} from './page_course.mjs';
 import {frenchPoint, germanPoint, mirroredPoint} from './page_languages.mjs';
 import {aimPoint, firstPoint, mendingPoint, walkingPoint} from './page_mending.mjs';
 import {othersPoint, printPoint} from './page_out.mjs';
@@ -374,11 +376,13 @@ const POINTS = {
   'place by place': placesPoint,
   'what a repair may change': limitsPoint,
   'the solving path': walkingPoint,
+  'film strip': filmPoint,
   'out of the page': wayOut,
   'what others get': othersPoint,
   'print for books': printPoint,
   links: linkPoint,
   'two colours': segmentsPoint,
+  'a book': bookPoint,
   'the player': playerPoint,
   'several files': severalPoint,
   offline: offlinePoint,

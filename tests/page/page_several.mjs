@@ -351,7 +351,7 @@ async function searched(work) {
       postMessage({id, call}) {
         setImmediate(() => this.onmessage?.({
           data: call === 'load' ? {id, ok: true} :
-                                  {id, fault: {kind: 'open', text: 'no picture has these clues'}}
+                                  {id, fault: {kind: 'picture', text: 'no picture has these clues'}}
         }));
       }
       terminate() {

@@ -284,7 +284,7 @@ export async function linkNotes({browser, url, folder}) {
   await page.until(() => document.getElementById('share-link'), 3000 * SLACK);
   assert.match(
       await trial.text('#share-note'),
-      /opened from a file.*holds the solution.*Another picture has the same clues/
+      /opened from a file.*contains the solution.*Another picture has the same clues/
   );
   await page.run(() => {
     const field = document.getElementById('share-address');

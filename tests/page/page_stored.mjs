@@ -272,8 +272,7 @@ export async function closedDatabase({page, trial}) {
   });
   await trial.drag([[2, 2]]);
   await page.until(
-      () => /storage does not take it/.test(document.getElementById('said').textContent),
-      5000 * SLACK
+      () => /storage refuses it/.test(document.getElementById('said').textContent), 5000 * SLACK
   );
   await page.run(() => runAction('print'));
   await page.until(() => document.querySelector('dialog[open] #print-notes'), 5000 * SLACK);

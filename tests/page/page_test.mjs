@@ -12,6 +12,7 @@ import {resolve} from 'node:path';
 import {fileURLToPath} from 'node:url';
 import {Browser, pause} from './page_browser.mjs';
 import {Trial, hookedPage} from './page_trial.mjs';
+import * as books from './page_books.mjs';
 import * as coming from './page_coming.mjs';
 import * as drawing from './page_drawing.mjs';
 import * as languages from './page_languages.mjs';
@@ -40,6 +41,7 @@ const url =
 if (!process.env.NONOBENCH)
   console.log('no program: what is shown is not compared with a session (set NONOBENCH)');
 const rooms = {
+  books,
   drawing,
   languages,
   lasting,

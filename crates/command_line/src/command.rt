@@ -54,7 +54,7 @@ fn named<'a>(alloc: Global) -> Result<Command<'a>, AllocError>
 {
     let command = Command::new(alloc, "nonobench")
         .about(
-            "Multicolour nonograms. Without words: the clues of the P3 picture on standard input.",
+            "Multicolour nonograms. With no command: the clues of the picture on standard input.",
         )
         .version(VERSION)
         .bin_name("nonobench")?
@@ -92,7 +92,7 @@ fn file_command<'a>(alloc: Global) -> Result<Command<'a>, AllocError>
             alloc,
             "file",
             "FILE",
-            "The picture, as a P3 text, or the puzzle, as a .non text",
+            "The picture, in plain PPM (P3), or the puzzle, as a .non file",
         ))
 }
 
@@ -103,12 +103,12 @@ const VERIFY: &str = "The old name of check";
 
 // What help says of the file of givens: of a check, of a certificate that is made, and of an assessment.
 const CHECK_GIVENS: &str =
-    "The givens that are published, as lines 'given R C': CERT may name no others";
+    "A file of the published givens, as lines 'given R C': CERT may name no others";
 
 const PROVE_GIVENS: &str =
-    "The givens that are published, as lines 'given R C': the certificate names all of them";
+    "A file of the published givens, as lines 'given R C': the certificate names all of them";
 
-const ASSESS_GIVENS: &str = "The givens that are published, as lines 'given R C', with one FILE";
+const ASSESS_GIVENS: &str = "A file of the published givens, as lines 'given R C', with one FILE";
 
 // The command that checks a certificate, under a name.
 fn check_command<'a>(
@@ -131,8 +131,8 @@ fn pair_command<'a>(alloc: Global, name: &'a str, about: &'a str) -> Result<Comm
 {
     Command::new(alloc, name)
         .about(about)
-        .after_help("Example: nonobench check heart.ppm heart.cert")
-        .arg(word(alloc, "file", "FILE", "The picture, as a P3 text"))?
+        .after_help("Example: nonobench check heart.ppm heart.ppm.cert")
+        .arg(word(alloc, "file", "FILE", "The picture, in plain PPM (P3)"))?
         .arg(word(alloc, "cert", "CERT", "Its certificate"))
 }
 
@@ -162,8 +162,8 @@ fn proving<'a>(alloc: Global) -> Result<Command<'a>, AllocError>
 {
     Command::new(alloc, "prove")
         .about("Prints a certificate that the picture is the only one with its clues")
-        .after_help("Example: nonobench prove heart.ppm > heart.cert")
-        .arg(word(alloc, "file", "FILE", "The picture, as a P3 text"))?
+        .after_help("Example: nonobench prove heart.ppm > heart.ppm.cert")
+        .arg(word(alloc, "file", "FILE", "The picture, in plain PPM (P3)"))?
         .arg(background(alloc))
 }
 
@@ -216,7 +216,7 @@ fn files<'a>(alloc: Global) -> Arg<'a>
         .value_name("FILE")
         .required(true)
         .num_args(1..)
-        .help("The puzzles, as P3 texts or as .non texts with a goal")
+        .help("The puzzles, in plain PPM (P3) or as .non files with a goal")
 }
 
 // A required argument without a flag, with what help shows for its value and its meaning.
@@ -286,7 +286,7 @@ fn certificate<'a>(alloc: Global) -> Arg<'a>
     Arg::new(alloc, "certificate")
         .long("certificate")
         .value_name("CERT")
-        .help("A certificate to take in place of a search, with one FILE")
+        .help("A certificate to use instead of a search, with one FILE")
 }
 
 fn givens<'a>(alloc: Global, help: &'a str) -> Arg<'a>
@@ -316,5 +316,5 @@ fn background<'a>(alloc: Global) -> Arg<'a>
     Arg::new(alloc, "background")
         .long("background")
         .value_name("R,G,B")
-        .help("The colour of the background in a P3 text, white where it is not given")
+        .help("The background colour of a plain PPM picture; without it, white")
 }

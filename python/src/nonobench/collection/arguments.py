@@ -16,8 +16,8 @@ from .reading import background_named
 ABOUT = """Says which puzzles of a collection are fit to be published: each has one solution and no flaw.
 
 PATH is a folder that is searched, or files: pictures (PPM, PGM, PBM, PNG, one pixel per cell), .non puzzles, and Web
-Paint-by-Number's XML with one puzzle. A certificate of x.png is x.png.cert and is checked; x.png.givens has the cells that are
-published with the puzzle, and x.png.background its background."""  # noqa: E501
+Paint-by-Number's XML with one puzzle. A puzzle x.png may have x.png.cert, its certificate, which is checked, x.png.givens, the
+cells that are published with it, and x.png.background, its background."""  # noqa: E501
 
 EXAMPLES = """examples:
   nonobench-audit site                                      a table of all puzzles below the folder site
@@ -162,27 +162,29 @@ def _add_inputs(group: argparse._ArgumentGroup) -> None:
         "--files-from",
         metavar="FILE",
         dest="list_of_files",
-        help="the names of files, one a line; - is standard input",
+        help="the names of files, one per line; - is standard input",
     )
     add(
         "--beside",
         metavar="DIR",
         type=_folder,
-        help="certificates, givens and backgrounds lie below this folder, at the paths of puzzles",
+        help="look for certificates, givens and backgrounds below this folder, at the puzzles' "
+        "paths",
     )
     add(
         "--untrusted",
         action="store_true",
         dest="is_untrusted",
-        help="for strangers' files: what lies beside puzzles, and givens within XML, do not count",
+        help="for strangers' files: ignore certificates, givens and backgrounds next to puzzles "
+        "or in XML",
     )
     add(
         "--background",
         metavar="COLOUR",
         type=_background,
         default="auto",
-        help="of pictures that name none: auto (PNG: transparent, white, or all corners), white, "
-        "or R,G,B",
+        help="of pictures that name none: auto (of a PNG: transparent, white, or all corners), "
+        "white, or R,G,B",
     )
     add(
         "--certified",
@@ -197,7 +199,7 @@ def _add_inputs(group: argparse._ArgumentGroup) -> None:
         action="append",
         choices=FLAW_KINDS,
         default=[],
-        help=f"flaws that count for nothing: {', '.join(FLAW_KINDS)}; may be repeated",
+        help=f"ignore flaws of this kind: {', '.join(FLAW_KINDS)}; may be repeated",
     )
 
 
@@ -206,13 +208,13 @@ def _add_outputs(group: argparse._ArgumentGroup) -> None:
     add("--jsonl", metavar="FILE", help="a line of JSON for each puzzle; - is standard output")
     add("--csv", metavar="FILE", help="for spreadsheets; - is standard output")
     add("--html", metavar="FILE", help="a report to look at, in one file that needs no network")
-    add("--title", metavar="TEXT", type=_title, default="Puzzles", help="of the report")
-    add("--sqlite", metavar="FILE", help="a database, in whose table each file has a row")
+    add("--title", metavar="TEXT", type=_title, default="Puzzles", help="title of the report")
+    add("--sqlite", metavar="FILE", help="a database with a table that has a row for each file")
     add(
         "--resume",
         action="store_true",
         dest="is_resumed",
-        help="keep the rows of --jsonl or --sqlite of which nothing has changed",
+        help="keep the rows of --jsonl or --sqlite whose puzzles have not changed",
     )
     add("--certify", metavar="DIR", help="write x.png.cert for each puzzle with one solution")
     add(
@@ -220,7 +222,7 @@ def _add_outputs(group: argparse._ArgumentGroup) -> None:
         metavar="DIR",
         help="write x.png.ppm for each, with its certificate, givens and background",
     )
-    add("--quiet", action="store_true", dest="is_quiet", help="neither table nor progress")
+    add("--quiet", action="store_true", dest="is_quiet", help="print neither table nor progress")
 
 
 def _add_bounds(group: argparse._ArgumentGroup) -> None:
@@ -230,27 +232,27 @@ def _add_bounds(group: argparse._ArgumentGroup) -> None:
         metavar="S",
         type=_whole(1, MOST_SECONDS),
         default=10,
-        help="of processor time for each puzzle (10); ten times as many by the clock",
+        help="seconds of processor time for each puzzle (10); ten times as many by the clock",
     )
     add(
         "--memory",
         metavar="MIB",
         type=_whole(64, 1 << 20),
         default=1024,
-        help="for each process (1024)",
+        help="MiB of memory for each process (1024)",
     )
     add(
         "--max-guesses",
         metavar="N",
         type=_whole(0, MOST_ALLOWANCE),
-        help="of each search: then the same files give the same rows, without times",
+        help="guesses of each search; then the same files give the same rows, without times",
     )
     add(
         "--jobs",
         metavar="N",
         type=_whole(1, 4096),
         default=len(os.sched_getaffinity(0)),
-        help="processes (one for each processor)",
+        help="number of processes (one for each processor)",
     )
     add("--scheduler", metavar="ADDRESS", help="use the workers of this Dask scheduler")
 
