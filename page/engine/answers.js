@@ -23,9 +23,8 @@ const UNDECIDED = pattern('undecided N');
 const CLUE = pattern('([rc]) N: (0|[0-9]+[a-o](?: [0-9]+[a-o])*)');
 const BLOCK = /^([1-9][0-9]*)([a-o])$/;
 const REASON = pattern('by ([rc]) N( given(?: [1-9][0-9]*=[.a-o]+)+)?');
-const LOOK = pattern(
-    '([rc]) N N N((?: [1-9][0-9]*=[.a-o])*)( stands)?( given(?: [1-9][0-9]*=[.a-o]+)+)?'
-);
+const LOOK =
+    pattern('([rc]) N N N((?: [1-9][0-9]*=[.a-o])*)( stands)?( given(?: [1-9][0-9]*=[.a-o]+)+)?');
 const CERT_LINE =
     /^(?:line [rc] \d{1,3}|dead [rc] \d{1,3}|split \d{1,3} \d{1,3}|given \d{1,3} \d{1,3}|done)$/;
 
@@ -202,8 +201,7 @@ function readPath(reader, size) {
   const {rows, columns} = size;
   const looks = [];
   while (!reader.peek().startsWith('open ')) {
-    const [, axis, number, round, excluded, fallen, stands, given] =
-        reader.match(LOOK, 'a look');
+    const [, axis, number, round, excluded, fallen, stands, given] = reader.match(LOOK, 'a look');
     const at = Number(number) - 1;
     const indexOf = (place) => (axis === 'r' ? at * columns + place : place * columns + at);
     const falls = fallen.split(' ').slice(1).map(

@@ -171,9 +171,10 @@ test('blank lines ask for nothing', () => {
 
 test('a path: each look by its line, rows first, and what fell by its place in the picture', () => {
   // By hand: row 2 of two settles both, then column 1 its first cell.
-  const path = one(
-      'path', 'r 2 1 2 1=a 2=. stands\nc 1 1 1 given 2=.ab\nc 2 2 1 1=a stands given 1=ab 2=.\nopen 1\n'
-  );
+  const path =
+      one('path',
+          'r 2 1 2 1=a 2=. stands\nc 1 1 1 given 2=.ab\nc 2 2 1 1=a stands given 1=ab 2=.\nopen 1\n'
+      );
   assert.deepEqual(path, {
     kind: 'path',
     open: 1,
@@ -205,8 +206,14 @@ test('a path: each look by its line, rows first, and what fell by its place in t
     ],
   });
   assert.deepEqual(one('path', 'open 0\n'), {kind: 'path', open: 0, looks: []});
-  for (const text of ['', 'open\n', 'r 1 1\nopen 0\n', 'r 1 1 1 1=\nopen 0\n', 'open 0\nopen 0\n',
-                      'r 1 1 1 given\nopen 0\n', 'r 1 1 1 given 1=a stands\nopen 0\n'])
+  for (const text
+           of ['',
+               'open\n',
+               'r 1 1\nopen 0\n',
+               'r 1 1 1 1=\nopen 0\n',
+               'open 0\nopen 0\n',
+               'r 1 1 1 given\nopen 0\n',
+               'r 1 1 1 given 1=a stands\nopen 0\n'])
     fails('path', text);
   fails('path', 'open 0\n', null);
 });
