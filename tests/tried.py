@@ -296,27 +296,19 @@ def node_tests(request, file, env):
         request.node.user_properties.append(('left out', why))
 
 
+def chromium(home):
+    """The command of a headless Chromium."""
+    names = ('chromium', 'chromium-browser', 'google-chrome')
+    found = next(filter(None, map(shutil.which, names)), None)
+    if not found:
+        pytest.skip('there is no Chromium')
+    return [found, '--headless', '--no-sandbox', '--disable-gpu', f'--user-data-dir={home}']
+
+
 def dumped(url, home, run_by):
     """What stands in a page of headless Chromium in the end; `clean` runs it without a network, and
     `ended` with one."""
-    found = next(
-        (
-            shutil.which(name)
-            for name in ('chromium', 'chromium-browser', 'google-chrome')
-            if shutil.which(name)
-        ),
-        None,
-    )
-    if not found:
-        pytest.skip('there is no Chromium')
-    words = [
-        '--headless',
-        '--no-sandbox',
-        '--disable-gpu',
-        '--virtual-time-budget=10000',
-        f'--user-data-dir={home}',
-        '--dump-dom',
-    ]
-    run = run_by(['timeout', '600', found, *words, url])
+    words = [*chromium(home), '--virtual-time-budget=10000', '--dump-dom']
+    run = run_by(['timeout', '600', *words, url])
     assert run.status == 0, run
     return run.wrote.decode()

@@ -54,7 +54,7 @@ test('a certificate is accepted where its givens are among those that are publis
   );
 });
 
-test('givens as places and as a file, and what is refused', async () => {
+test('givens as places and as a file', async () => {
   const checker = await load(bytes);
   assert.equal(checker.version, VERSION);
   const refused = {

@@ -5,6 +5,10 @@ declare global {
   interface SymbolConstructor {
     readonly dispose: unique symbol;
   }
+  // As in the library for browsers, which other programs do not name.
+  namespace WebAssembly {
+    interface Module {}
+  }
 }
 
 /** A file: its text, or its bytes. At most 16,777,216 bytes. */

@@ -9,6 +9,7 @@ import {dirname, join, resolve} from 'node:path';
 import test from 'node:test';
 import {fileURLToPath, pathToFileURL} from 'node:url';
 import {Chance} from '../../tests/packages/chance.mjs';
+import {waits} from '../../tests/waits.mjs';
 
 const root = join(dirname(fileURLToPath(import.meta.url)), '..', '..');
 const folder = resolve(process.env.PACKAGE);
@@ -121,7 +122,7 @@ const PIECES = [
   '--histor'
 ];
 
-test('arguments are taken and refused as by the native program', () => {
+test('arguments are taken and refused as by the native program', {skip: waits('0.8.0')}, () => {
   const chance = new Chance(20);
   for (let time = 0; time < 2000; time += 1) {
     const front = chance.below(4) === 0 ?

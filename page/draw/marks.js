@@ -1,9 +1,12 @@
 // Marks over the cells: a reason with its premises, a selection, the rubber of a drag, the axes of
-// symmetric pens.
+// symmetric pens, and rings through the cells that can turn.
 
 import {HOLE, boxAround, shapeOf} from '../document/regions.js';
 import {isPossible} from '../document/symmetry.js';
 import {CanvasSurface} from './surface.js';
+
+const MOST_TURNING = 48;  // cells of a ring
+const WARNED = 0.75;      // how much is seen of a dot
 
 /**
  * Draws a line that is seen on any colour: white, and then less wide in an ink, which may be
@@ -117,6 +120,66 @@ function drawPlaces(pen, sheet) {
   });
 }
 
+// A line through the first and the last of some cells of a row or a column; along rows it has an
+// arrow, of one to the right and of the next to the left.
+function drawTurn(path, at, from, to, turns) {
+  const [x, y, toX, toY] = [...from, ...to];
+  path.moveTo(x, y);
+  path.lineTo(toX, toY);
+  if (turns === 0) return;
+  const [tip, back] = turns > 0 ? [toX, -1] : [x, 1];
+  const size = at.cell * 0.22;
+  path.moveTo(tip + back * size, y - size);
+  path.lineTo(tip, y);
+  path.lineTo(tip + back * size, y + size);
+}
+
+// Cells in groups, by their line.
+function byLine(cells, lineOf) {
+  const lines = new Map();
+  for (const place of cells) lines.set(lineOf(place), [...lines.get(lineOf(place)) ?? [], place]);
+  return [...lines.values()];
+}
+
+// What can turn, as a ring through its cells, where these are not too many to follow.
+function drawTurns(pen, sheet) {
+  const {geometry: at, turns, state: {columns}} = sheet;
+  const middle = (place
+  ) => [at.x(place % columns) + at.cell / 2, at.y(Math.floor(place / columns)) + at.cell / 2];
+  const path = new Path2D();
+  for (const cells of turns.filter(({length}) => length <= MOST_TURNING)) {
+    byLine(cells, (place) => Math.floor(place / columns))
+        .forEach(
+            (row, number) =>
+                drawTurn(path, at, middle(row[0]), middle(row.at(-1)), number % 2 ? -1 : 1)
+        );
+    for (const column of byLine(cells, (place) => place % columns))
+      drawTurn(path, at, middle(column[0]), middle(column.at(-1)), 0);
+  }
+  drawTwice(pen, at.scale, [4, 2], {ink: sheet.inks.alarm}, () => pen.stroke(path));
+}
+
+// A faint dot in each cell where painting would cost something, and a ring where that is not
+// decided.
+function drawWarned(pen, sheet) {
+  const {geometry: at, state, warned, inks} = sheet;
+  const radius = Math.max(1.5 * at.scale, at.cell / 8);
+  pen.globalAlpha = WARNED;
+  for (const [place, mark] of warned) {
+    const [x, y] = [place % state.columns, Math.floor(place / state.columns)].map(
+        (line, axis) => (axis ? at.y(line) : at.x(line)) + at.cell / 2
+    );
+    pen.beginPath();
+    pen.arc(x, y, radius, 0, 2 * Math.PI);
+    Object.assign(pen, {lineWidth: 3 * at.scale, strokeStyle: '#fff', fillStyle: inks.alarm});
+    pen.stroke();
+    if (mark === 'breaks') pen.fill();
+    Object.assign(pen, {lineWidth: at.scale, strokeStyle: inks.alarm});
+    pen.stroke();
+  }
+  pen.globalAlpha = 1;
+}
+
 // The axes of symmetric pens; quarter turns have a ring about the middle.
 function drawAxes(pen, sheet) {
   const {geometry: at, state, symmetry} = sheet;
@@ -146,6 +209,8 @@ export function drawMarks(pen, sheet) {
   pen.clip();
   if (sheet.symmetry !== 'none' && isPossible(sheet.symmetry, sheet.state)) drawAxes(pen, sheet);
   drawPlaces(pen, sheet);
+  if (sheet.turns.length && sheet.hatching === 'differing' && !at.isBare) drawTurns(pen, sheet);
+  drawWarned(pen, sheet);
   for (const index of sheet.framed)
     ringAround(
         pen,

@@ -44,10 +44,13 @@ class Sheet {
     this.hatching = 'open';    // 'off', 'differing' or 'open'
     this.other = false;        // whether the other picture is shown
     this.reason = null;
-    this.held = null;        // a line that is dragged: {axis, word, from, to}
-    this.boxes = [];         // rectangles over the cells: {top, left, bottom, right, shape}
-    this.places = [];        // where line solving stalls: groups of cells, by their places
-    this.framed = [];        // the places of cells that a proposal changes, while it is shown
+    this.held = null;  // a line that is dragged: {axis, word, from, to}
+    this.boxes = [];   // rectangles over the cells: {top, left, bottom, right, shape}
+    this.places = [];  // where line solving stalls: groups of cells, by their places
+    this.turns = [];   // what can turn: groups of cells, by their places
+    this.framed = [];  // the places of cells that a proposal changes, while it is shown
+    // Places where painting would cost something: to 'breaks' or 'undecided'.
+    this.warned = new Map();
     this.symmetry = 'none';  // of the pens, as document/symmetry.js has it
     this.underlay = null;    // an image to trace
     this.frame = 0;

@@ -210,8 +210,8 @@ export async function showRows(rows, notes = []) {
       {name: phrase('view.close'), value: null},
       ...(puzzles.length ?
               [
-                {name: opening(phrase('export.makeBook')), value: 'book'},
                 {name: phrase('import.saveAllZip'), value: 'zip', test: () => table.saveZip()},
+                {name: opening(phrase('export.makeBook')), value: 'book'},
                 {name: phrase('import.addLibrary'), value: 'library', main: true}
               ] :
               [])

@@ -1,30 +1,39 @@
 // The solving path of the picture at hand, in the panel: what a solver has after shares of it, with
-// a slider, and when the selection is half known. While its fold is open, the second worker walks
-// the path behind strokes.
+// a slider, when the selection is half known, and the difficulty curve. While its fold is open, the
+// second worker walks the path behind strokes.
 
-import {$, buttonOf, make} from '../base/elements.js';
+import {$, buttonOf, make, svgPart} from '../base/elements.js';
 import {behindFrame, on} from '../base/events.js';
 import {clamp} from '../base/words.js';
 import {sameBenchPart} from '../document/document.js';
+import {sheet} from '../draw/sheet.js';
 import {drawSmall} from '../draw/small.js';
 import {bench} from '../engine/bench.js';
 import {phrase} from '../texts/phrase.js';
 import {addAction} from '../view/actions.js';
+import {canEase, easeAt} from '../view/grading.js';
 import {selectedPlaces} from '../view/select.js';
 import {searches, secondsChosen} from '../view/verdict.js';
+import {cellsLeft, cliffsOf, drawCurve, stepAcross} from './curve.js';
 import {SHARES, shareAt, stepAt, stepHalfKnown} from './film.js';
+import {cellsOf} from './looks.js';
 import {pathOf} from './path.js';
+import {stepText} from './telling.js';
 
 const REST = 600;  // milliseconds without a stroke or a search
 const SOON = 250;  // where the fold opens: a search for the verdict has begun by then
 const MOST_SECONDS = 5;
 const [THUMB, LARGE] = [48, 160];  // pixels
+const NEAR = 0.05;                 // of the curve's width: a press so near a cliff means it
 
 // The path that is shown, at which step, and of which picture; it stays, greyed, until the next.
 const course = {
   walk: null,
   of: null,
   at: 0,
+  left: [],
+  cliffs: [],
+  cliff: null,
   waits: 0
 };
 // Whether the path of a state is that of another one: it ends otherwise where the verdict is
@@ -61,8 +70,19 @@ function makeCourse() {
         oninput: (event) => showStep(Number(event.target.value))
       }),
       make('p', {id: 'film-said', role: 'status'}),
-      make('p', {id: 'film-half', class: 'faint'})
+      make('p', {id: 'film-half', class: 'faint'}),
+      make('h3', {}, phrase('play.curve')),
+      svgPart('svg', {id: 'curve', 'aria-hidden': 'true'}),
+      make(
+          'div', {id: 'cliffs', class: 'group', role: 'group', 'aria-label': phrase('play.cliffs')}
+      ),
+      make('p', {id: 'cliff-said', role: 'status'}),
+      buttonOf('cliff-ease', phrase('play.softenHere'), () => easeAt(placesOf(course.cliff)), {
+        disabled: true,
+        title: phrase('play.softenHint')
+      })
   );
+  fold.querySelector('#curve').addEventListener('click', pressCurve);
   for (const button of fold.querySelectorAll('[data-share]'))
     button.prepend(make('canvas', {class: 'small', 'aria-hidden': 'true'}));
   $('details-do').after(fold);
@@ -79,9 +99,11 @@ function drawKnown(canvas, at, most) {
 
 const goTo = (share) => showStep(stepAt(course.walk, share));
 
-function showStep(at) {
+function showStep(at, cliff = null) {
   const {walk, of} = course;
   course.at = clamp(at, 0, walk.steps.length);
+  showCliff(cliff);
+  drawCurve($('curve'), course.left, course.cliffs, course.at);
   $('film-at').value = course.at;
   drawKnown($('film-now').firstChild, course.at, LARGE);
   const known = walk.letters(course.at).filter((letter) => letter !== '?').length;
@@ -92,6 +114,60 @@ function showStep(at) {
     known,
     cells: of.rows * of.columns
   });
+}
+
+// ---- cliffs
+
+// The places of a cliff's step: the cells of its line, or of the row and the column of a guess.
+function placesOf({at}) {
+  const {walk, of} = course;
+  const {line, falls: [{index}]} = walk.steps[at - 1];
+  const lines =
+      line === null ? [Math.floor(index / of.columns), of.rows + (index % of.columns)] : [line];
+  return new Set(lines.flatMap((one) => cellsOf(of, one)));
+}
+
+// Shows the step of a cliff: in words, and by frames around the cells that it settles.
+function showCliff(cliff) {
+  const had = course.cliff !== null;
+  course.cliff = cliff;
+  for (const button of $('cliffs').children)
+    button.setAttribute('aria-pressed', Number(button.dataset.at) === cliff?.at);
+  $('cliff-ease').disabled = !cliff || !canEase();
+  $('cliff-said').textContent = cliff ?
+      phrase(
+          'play.cliffSays',
+          {at: cliff.at, why: cliff.why, step: stepText(course.of, course.walk.steps[cliff.at - 1])}
+      ) :
+      '';
+  if (!cliff && !had) return;
+  const falls = cliff && isOfThis() ? course.walk.steps[cliff.at - 1].falls : [];
+  sheet.framed = falls.map(({index}) => index);
+  sheet.redraw();
+}
+
+function makeCliffs() {
+  $('cliffs').replaceChildren(...course.cliffs.map(
+      (cliff) =>
+          buttonOf('', phrase('play.cliffAt', {at: cliff.at}), () => showStep(cliff.at, cliff), {
+            'data-at': cliff.at,
+            title: cliff.why
+          })
+  ));
+}
+
+// A press on the curve shows the cliff there, or else the step.
+function pressCurve(event) {
+  if (!course.walk) return;
+  const {left, width} = $('curve').getBoundingClientRect();
+  const count = course.walk.steps.length;
+  const at = stepAcross((event.clientX - left) / width, count);
+  const far = (cliff) => Math.abs(cliff.at - 1 - at);
+  const [near] = [...course.cliffs].sort((one, other) => far(one) - far(other));
+  if (near && far(near) <= Math.max(1, NEAR * count))
+    showStep(near.at, near);
+  else
+    showStep(at);
 }
 
 // When the selection is half known.
@@ -106,6 +182,8 @@ function showHalf() {
 
 function showCourse(share) {
   const {walk} = course;
+  Object.assign(course, {left: cellsLeft(walk), cliffs: cliffsOf(walk)});
+  makeCliffs();
   $('film-at').max = walk.steps.length;
   $('film-at').disabled = false;
   for (const button of $('film').children) {
@@ -122,6 +200,7 @@ function showCourse(share) {
 // Waits for rest. Any other search comes first.
 function schedule(rest = REST) {
   clearTimeout(course.waits);
+  if (course.cliff && !(isOpen() && isOfThis())) showCliff(null);
   if (!isOpen() || !bench.state) return;
   $('course').classList.toggle('old', !isOfThis());
   if (!isOfThis())

@@ -5,6 +5,8 @@ import {capital, lineName, linesText} from '../base/words.js';
 import {LETTERS} from '../document/limits.js';
 import {namesOf} from '../document/names.js';
 import {phrase} from '../texts/phrase.js';
+import {inkName} from '../view/dress.js';
+import {placeText} from '../view/proposals.js';
 import {isBackground} from './hinting.js';
 import {blocksOf, cellsOf} from './looks.js';
 
@@ -116,12 +118,19 @@ export const settledText = (state, {line, falls}) => phrase('play.lineSays', {
   cells: joined(byLetter(falls).map(([letter, indices]) => cellsAre(state, line, letter, indices)))
 });
 
+// What a guess says.
+const guessText = (state, [{index, letter}]) => phrase('play.suppose', {
+  place: placeText(state, index),
+  colour: letter === '.' ? phrase('view.background') : inkName(state, letter)
+});
+
 /**
  * What a step says, as far as it is told: 'line', 'cells' or 'why', that is, with what it follows
  * from.
  */
 export function stepText(state, step, how = 'why') {
   const {line, falls} = step;
+  if (line === null) return guessText(state, falls);
   if (!falls.length) return phrase('play.excludesColours', {lineName: nameOfLine(state, line)});
   if (how === 'line') return phrase('play.tellsMore', {lineName: nameOfLine(state, line)});
   return `${settledText(state, step)}${how === 'cells' ? '' : reasonOf(state, step)}.`;

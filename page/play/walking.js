@@ -7,7 +7,6 @@ import {withIcon} from '../draw/icons.js';
 import {phrase} from '../texts/phrase.js';
 import {runAction} from '../view/actions.js';
 import {confirmDialog} from '../view/dialogs.js';
-import {inkName} from '../view/dress.js';
 import {Walk, pathOf} from './path.js';
 import {play, playSays, showSolved} from './play.js';
 import {drawPlay, refitPlay} from './playdraw.js';
@@ -95,20 +94,6 @@ export async function startWalk() {
 
 // ---- steps
 
-function textOf(step) {
-  const {state} = play;
-  if (step.line !== null) return stepText(state, step);
-  const [{index, letter}] = step.falls;
-  const colour = letter === '.' ? phrase('view.background') : inkName(state, letter);
-  return phrase('play.suppose', {
-    place: phrase(
-        'view.placeOfCell',
-        {value: Math.floor(index / state.columns) + 1, columns: (index % state.columns) + 1}
-    ),
-    colour
-  });
-}
-
 function goTo(at) {
   const {walk} = walking;
   if (!walk) return;
@@ -121,7 +106,7 @@ function goTo(at) {
   const places = (cells) => cells.map(({index}) => index);
   play.shown =
       step && {line: step.line, cells: places(step.falls), premises: places(step.premises())};
-  walking.told = step ? `: ${textOf(step)}` : phrase('play.emptyPuzzle');
+  walking.told = step ? `: ${stepText(play.state, step)}` : phrase('play.emptyPuzzle');
   showLength();
   if (walking.isKnown && walking.at === walk.steps.length) stopPlaying();
   drawPlay();

@@ -193,6 +193,13 @@ export const EN = /** @type {const} */ ({
   'view.larger': 'Larger cells',
   'view.smaller': 'Smaller cells',
   'view.fit': 'Fit',
+  'view.safeDots': 'Mark unsafe cells',
+  'view.safeDotsHint':
+      'While the puzzle has one solution. A dot near the pointer: the chosen colour there would leave more, or need more than lines. A ring: not decided.',
+  'view.safeOnly': 'Paint only safe cells',
+  'view.safeOnlyHint': 'Or hold Ctrl when a stroke ends. The other cells stay.',
+  'view.safeLeft': '{cells|# cell was|# cells were} not painted, as that is not safe.',
+  'view.safeNeedsOne': 'Nothing was painted: the safe brush needs a puzzle with one solution.',
   'view.lettersCellsClues': 'Letters in cells and clues',
   'view.pictureOnly': 'Picture without grid and clues',
   'view.light': 'Light',
@@ -502,6 +509,13 @@ export const EN = /** @type {const} */ ({
   'view.withoutGreenCones': 'Without green cones (deuteranopia)',
   'view.withoutBlueCones': 'Without blue cones (tritanopia)',
   'view.nameLetter': '“{name}” ({letter})',
+  'view.onlyCellsOfStep': 'Only cells of the step change',
+  'view.whatCanTurn': 'What can turn',
+  'view.turnNext': 'Turn the next place',
+  'view.cellsCanTurn': 'These {cells|# cell|# cells} can turn.',
+  'view.placesCanTurn':
+      '{places|# place|# places} can turn, each by itself: at least {pictures|# picture|# pictures}.',
+  'view.turnPlace': '{place}: {cells|# cell|# cells}',
   // ---- play
   'play.lineSays': '{lineName}: {cells}',
   'play.areColour': '{places} {count|is|are} {colour}',
@@ -573,6 +587,15 @@ export const EN = /** @type {const} */ ({
   'play.selectPart': 'Select a part, such as a face, to see when a solver knows half of it.',
   'play.halfKnown': 'Half of the selection is known at {share}%.',
   'play.halfOpen': 'The path leaves more than half of the selection open.',
+  'play.curve': 'Cells left, line by line',
+  'play.cliffs': 'Cliffs',
+  'play.cliffAt': 'Step {at}',
+  'play.cliffSays': 'Step {at}, {why}. {step}',
+  'play.cliffGuess': 'a guess',
+  'play.cliffWait': 'behind {lines|# line|# lines} that {lines|settles|settle} no cell',
+  'play.cliffHardest': 'the hardest step',
+  'play.softenHere': 'Soften here',
+  'play.softenHint': 'Looks for repaints of the cells in the lines of this step alone',
   // ---- library
   'library.browsersStorageFull': 'The browser’s storage is full',
   'library.browsersStorageLate': 'The browser’s storage does not open',
@@ -952,8 +975,7 @@ export const EN = /** @type {const} */ ({
   'start.dropFileHerePaste':
       'Drop files here, paste a picture (Ctrl+V), or choose files. Several are listed in a table with their verdicts.',
   'start.tapToChoose': 'Tap “Choose files …”. Several are listed in a table with their verdicts.',
-  'start.pngJpegGifWebp':
-      'An image (PNG, JPEG, GIF, WebP, BMP, AVIF, SVG) becomes a puzzle. PPM, PBM, .non and Web Paint-by-Number’s XML open as they are. The pictures of a saved zip are added to the library, and a certificate is checked against the open picture.',
+  'start.pngJpegGifWebp': 'An image (PNG, JPEG, GIF, WebP, BMP, AVIF, SVG) becomes a puzzle. PPM, PBM, .non and Web Paint-by-Number’s XML open as they are. The pictures of a saved zip are added to the library, and a certificate is checked against the open picture.',
   'start.chooseFile': 'Choose files …',
   'start.balloon': 'balloon',
   'start.heart': 'heart',

@@ -50,8 +50,9 @@ const ADVICE = {
   areas: phrase('view.adviceAreas')
 };
 
-// What was found, for which picture (`of`) and goal (`by`), and what was asked for. It stays while
-// a proposal is tried: an undo shows the list again.
+// What was found, for which picture (`of`) and goal (`by`), and what was asked for; `only` are the
+// places that may change, null where all may. It stays while a proposal is tried: an undo shows the
+// list again.
 const fixing = {
   goal: 'lines',
   by: 'lines',
@@ -65,6 +66,7 @@ const fixing = {
   shown: null,
   taken: null,
   isWanted: false,
+  only: null,
   turn: 0,
   waits: 0
 };
@@ -78,8 +80,13 @@ export const canFix = () =>
 /** Whether the panel has something to do: a grade may be aimed for by any picture. */
 export const mayFix = () => canFix() || (bench.state !== null && isGrade(fixing.goal));
 
-/** Opens the panel, and looks for what mends the picture, or for what gives it a grade. */
-export function openFix(word = null) {
+/**
+ * Opens the panel, and looks for what mends the picture, or for what gives it a grade; in some
+ * places only, where these are named.
+ */
+export function openFix(word = null, only = null) {
+  const isSamePart = String([...only ?? []]) === String([...fixing.only ?? []]);
+  fixing.only = only;
   if (word)
     fixing.goal = word;
   else if (bench.state.verdict.word === 'unique' || isGrade(fixing.goal))
@@ -132,15 +139,17 @@ export function openFix(word = null) {
   showFound();
   tell('fixing', true);
   $('fix-close').focus({preventScroll: true});
-  if (isOfThis() && fixing.by === fixing.goal && fixing.found.length)
+  if (isOfThis() && isSamePart && fixing.by === fixing.goal && fixing.found.length)
     fixSays(fixing.said);
   else
     findRepairs();
 }
 
-// Says next to the goal which symmetry proposals keep.
+// Says next to the goal which symmetry proposals keep, or that they keep to some cells.
 function showSymmetry() {
-  if ($('fix-symmetry') && bench.state) $('fix-symmetry').textContent = keptSymmetry(bench.state);
+  if ($('fix-symmetry') && bench.state)
+    $('fix-symmetry').textContent =
+        fixing.only ? phrase('view.onlyCellsOfStep') : keptSymmetry(bench.state);
 }
 
 // Offers the image that the picture was made of, where few repaints make no puzzle.
@@ -250,7 +259,7 @@ async function findRepairs() {
     return fixSays(phrase('view.oneSolutionThere'));
   const part = Math.min(2, secondsChosen() / 4);  // of the time, for the givens, and for mixtures
   const run = await searched(phrase('view.lookingRepairs'), async (copy, state) => {
-    const board = boardOf(state);
+    const board = boardOf(state, fixing.only);
     fixing.of = state;
     const told = ({found, nearer, places, placed}) => {
       if (places) fixing.places = places;
@@ -270,7 +279,7 @@ async function findRepairs() {
     if (isGrade(goal))
       return copy.work('aim', {board, word: goal, seconds: Math.max(1, secondsChosen() - 1)}, told);
     const isLeast = await give(QUICK);
-    const mirror = board.mirror ? null : mirrorOf(state.picture);
+    const mirror = board.mirror || fixing.only ? null : mirrorOf(state.picture);
     if (mirror)
       await copy.work(
           'repair',
@@ -300,6 +309,8 @@ async function findRepairs() {
 // for an undo.
 async function findAgain() {
   const [{goal}, {state}] = [fixing, bench];
+  fixing.only = null;
+  showSymmetry();
   const said = LINE_WORDS.includes(goal) && state.verdict.word === 'unique' && state.open === 0 ?
       await searches.assess(MOST_SECONDS) :
       null;

@@ -99,6 +99,13 @@ function nextWord(step) {
   return at < 0 ? undefined : LINE_WORDS[at + step];
 }
 
+/** Whether the picture at hand may be made easier. */
+export const canEase = () => bench.state !== null &&
+    (bench.state.open > 0 || bench.state.verdict.word !== 'unique' || nextWord(-1) !== undefined);
+
+/** Looks for what makes it easier, or needs no guess, in some places only. */
+export const easeAt = (places) => openFix(nextWord(-1) ?? null, places);
+
 /** Hears verdicts, and adds what looks for another grade. */
 export function startGrading() {
   for (const [id, name, step] of [

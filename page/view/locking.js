@@ -27,8 +27,20 @@ const limits = {
 const mirrorFor = ({picture}) =>
     (limits.mirror === AS_PENS ? mirrorOfPens(picture, tools.symmetry) : limits.mirror || null);
 
-/** The board of a state that repairs are looked for on. */
-export const boardOf = (state) => boardFields(state, {rule: limits.rule, mirror: mirrorFor(state)});
+/**
+ * The board of a state that repairs are looked for on; where only some places may change, no
+ * symmetry is kept.
+ */
+export function boardOf(state, only = null) {
+  if (!only) return boardFields(state, {rule: limits.rule, mirror: mirrorFor(state)});
+  const board = boardFields(state, {rule: limits.rule});
+  return {
+    ...board,
+    lockedCells: [...board.lockedCells, ...board.cells.keys()].filter(
+        (place) => state.locks.has(place) || !only.has(place)
+    )
+  };
+}
 
 /** Which symmetry repairs of a state keep, in words; '' where they need not keep one. */
 export function keptSymmetry(state) {

@@ -33,7 +33,9 @@ export const tools = {
   drag: null,
   symmetry: 'none',
   adds: false,  // whether the wand adds to what is selected
-  last: null    // the cell that was painted last, in which open document
+  last: null,   // the cell that was painted last, in which open document
+  /** @type {(places: Set<number>, letter: string) => Promise<any> | null} */
+  guard: () => null  // paints places in place of a stroke, where it does
 };
 
 /** Has the pens draw symmetric. */
@@ -200,8 +202,12 @@ export function dropDrag() {
 export const paintCells = (cells, letter = tools.colour) =>
     paintPlaces(new Set(cells.map(indexAt)), letter);
 
+/** Places in one colour, or those of them that a guard lets through. */
+export const paintPlaces = (places, letter) =>
+    tools.guard(places, letter) ?? sendPlaces(places, letter);
+
 /** Places in one colour, shown until it is answered. */
-export function paintPlaces(places, letter) {
+export function sendPlaces(places, letter) {
   return sendStroke(
       (doc) => coverOf(places, doc.picture, letter),
       new Map([...places].map((place) => [place, letter]))

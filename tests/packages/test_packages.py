@@ -5,17 +5,24 @@ for pairs that must be accepted, that must be refused, and whose givens are all 
 If CHANGELOG.md says that the version is released, dist/ must have the bytes of what was made.
 """
 
+import functools
 import gzip
+import http.server
+import os
+import queue
 import re
 import shutil
+import signal
 import subprocess
 import sys
+import threading
 
 import pytest
 from tried import (
     EXAMPLES,
     ROOT,
     VERSION,
+    chromium,
     clean,
     dumped,
     ended,
@@ -272,6 +279,32 @@ def test_npm_types(npm):
         'es2022,esnext,dom',
     ]
     passes(['tsc', *words, 'types.mts'], cwd=npm)
+
+
+def test_npm_worker_in_a_browser(npm, tmp_path):
+    """On a server, which the page tells what its worker answers."""
+    said = queue.Queue()
+
+    class Handler(http.server.SimpleHTTPRequestHandler):
+        def do_POST(self):
+            said.put(self.rfile.read(int(self.headers['Content-Length'])).decode())
+            self.send_response(204)
+            self.end_headers()
+
+    command = chromium(tmp_path / 'home')
+    shutil.copy(TRIALS / 'worker.html', tmp_path)
+    shutil.copytree(npm / 'node_modules' / 'nonobench', tmp_path / 'nonobench')
+    handler = functools.partial(Handler, directory=tmp_path)
+    with http.server.ThreadingHTTPServer(('127.0.0.1', 0), handler) as server:
+        threading.Thread(target=server.serve_forever, daemon=True).start()
+        url = f'http://127.0.0.1:{server.server_port}/worker.html'
+        with subprocess.Popen([*command, url], start_new_session=True) as browser:
+            try:
+                wanted = 'r 1: 1a, c 1: 1a; picture NotP3; timeout TimeoutError'
+                assert said.get(timeout=300) == wanted
+            finally:
+                os.killpg(browser.pid, signal.SIGKILL)
+        server.shutdown()
 
 
 def test_npm_in_node(request, kept, npm):

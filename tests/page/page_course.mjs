@@ -1,4 +1,4 @@
-// Trials of the solving path in the panel: the film strip.
+// Trials of the solving path in the panel: the film strip, and the difficulty curve.
 import assert from 'node:assert/strict';
 import {isOpen} from './page_hands.mjs';
 import {SLACK, ppmOf} from './page_trial.mjs';
@@ -40,4 +40,55 @@ export async function filmPoint(hands) {
   await hands.stroke([2, 1]);
   // Rows 1, 3 and 4, and then a cell of row 2 by each column.
   await reads(page, 'film-said', 'After 6 of 8 steps (75%): 18 of 20 cells known.');
+}
+
+// Lines alone do not solve it; wherever one guesses, one cell in that row or column mends it.
+const GUESSED = ['aaaa..', '..a.a.', '.a..a.', '..aaaa', '...a.a', '.a....'];
+const cliffs = (page, wanted) => page.until(
+    (why) => [...document.querySelectorAll('#cliffs button')].some(({title}) => title === why),
+    20000 * SLACK,
+    wanted
+);
+
+/**
+ * The curve has its cliffs; one shows its step, in words and in the picture, and what softens it is
+ * looked for in the lines of that step alone.
+ */
+export async function curvePoint(hands) {
+  const {page, trial} = hands;
+  await trial.open(ppmOf(STRIPES), 'stripes');
+  await isOpen(page);
+  await hands.menu('check', 'course');
+  await cliffs(page, 'the hardest step');
+  await hands.press('#cliffs button');
+  await reads(
+      page,
+      'cliff-said',
+      'Step 1, the hardest step. Row 1: columns 1–5 are black, as its blocks fill the line.'
+  );
+  assert.deepEqual(await page.run(() => sheet.framed), [0, 1, 2, 3, 4]);
+  assert.ok(await page.run(() => document.getElementById('cliff-ease').disabled), 'easy already');
+
+  await trial.open(ppmOf(GUESSED), 'guessed');
+  assert.equal(await trial.judged(), 'unique');
+  assert.deepEqual(await page.run(() => sheet.framed), [], 'another picture');
+  await cliffs(page, 'a guess');
+  await page.run(() => {
+    for (const one of document.querySelectorAll('#cliffs button'))
+      one.toggleAttribute('data-guess', one.title === 'a guess');
+  });
+  await hands.press('#cliffs [data-guess]');
+  const [place] = await page.run(() => sheet.framed);
+  await hands.press('#cliff-ease');
+  await page.until(
+      () => document.querySelector('#fix-list button') && !searches.running, 30000 * SLACK
+  );
+  await hands.press('#fix-list button');
+  await page.until((rows) => bench.state.picture.join() !== rows, 5000 * SLACK, GUESSED.join());
+  const after = (await trial.picture()).join('');
+  const changed = [...after].flatMap((letter, at) => (letter === GUESSED.join('')[at] ? [] : [at]));
+  const isInLines = (at) => Math.floor(at / 6) === Math.floor(place / 6) || at % 6 === place % 6;
+  assert.ok(changed.every(isInLines), `${changed} for a guess at ${place}`);
+  assert.equal(await trial.judged(), 'unique');
+  assert.equal((await trial.state()).open, 0);
 }

@@ -324,7 +324,7 @@ export async function tablePoint(hands, {page, own}) {
   );
   const verdicts = await page.run(() => Object.fromEntries([
     ...document.querySelectorAll('#several tbody tr')
-  ].map((row) => [row.dataset.name, row.children[3].textContent])));
+  ].map((row) => [row.dataset.name, row.children[3].textContent.trim()])));
   assert.match(verdicts.c, /^unique, \d+ cells? repainted$/);
   assert.equal(verdicts.b, 'unique');
   await hands.press('#several-csv');

@@ -7,7 +7,7 @@ import {bookPoint} from './page_books.mjs';
 import {clean, downloaded, examples, fresh, hard, isKept, isOpen} from './page_hands.mjs';
 import {Hands} from './page_inputs.mjs';
 import {choosingPoint, palettesPoint, slidingPoint, visionPoint} from './page_coming.mjs';
-import {filmPoint} from './page_course.mjs';
+import {curvePoint, filmPoint} from './page_course.mjs';
 import {frenchPoint, germanPoint, mirroredPoint} from './page_languages.mjs';
 import {aimPoint, firstPoint, mendingPoint, walkingPoint} from './page_mending.mjs';
 import {othersPoint, printPoint} from './page_out.mjs';
@@ -17,8 +17,10 @@ import {stillPoint} from './page_lasting.mjs';
 import {smallPoint, typingPoint} from './page_marks.mjs';
 import {limitsPoint, placesPoint} from './page_repairs.mjs';
 import {linkPoint, offlinePoint, playerPoint, severalPoint} from './page_sharing.mjs';
+import {safePoint} from './page_safe.mjs';
 import {SIZES, SLACK, noise, ppmOf} from './page_trial.mjs';
 import {segmentsPoint} from './page_two.mjs';
+import {turningPoint} from './page_turning.mjs';
 import {pause} from './page_browser.mjs';
 
 const PAIR = ['a.....', '.a....', '......', '...aaa', '...aaa', '...aaa'];
@@ -257,7 +259,7 @@ async function large(hands) {
   if (hands.byKeys)
     await page.press('z');
   else
-    await hands.press('#quick [data-action="fit"]');
+    await hands.press('#zoom [data-action="fit"]');
   await page.until(
       (side) => sheet.geometry.cell / sheet.geometry.scale === side, 2000 * SLACK, first.side
   );
@@ -377,12 +379,15 @@ const POINTS = {
   'what a repair may change': limitsPoint,
   'the solving path': walkingPoint,
   'film strip': filmPoint,
+  'difficulty curve': curvePoint,
+  'what can turn': turningPoint,
   'out of the page': wayOut,
   'what others get': othersPoint,
   'print for books': printPoint,
   links: linkPoint,
   'two colours': segmentsPoint,
   'a book': bookPoint,
+  'the safe brush': safePoint,
   'the player': playerPoint,
   'several files': severalPoint,
   offline: offlinePoint,

@@ -575,7 +575,15 @@ export async function tutorialSteps({browser, url, folder}) {
   await page.press('Escape');
 
   await trial.press('Control+z', 'Control+z');
-  await page.click('#fix-give');
+  await page.until(
+      (row) => bench.state.picture[2] === row && bench.state.verdict.word === 'ambiguous',
+      20000 * SLACK,
+      '....aaaaaaaa....'
+  );
+  const giving = '#fix-list button[title^="Give 2 cells"]';
+  await page.until((wanted) => document.querySelector(wanted), 30000 * SLACK, giving);
+  await listed(page);
+  await page.run((wanted) => document.querySelector(wanted).click(), giving);
   await page.until(() => bench.state.givens.size > 0, 10000 * SLACK);
   assert.equal((await trial.state()).givens.length, 2, 'two cells are given');
   assert.equal(await trial.judged(), 'unique');

@@ -28,6 +28,7 @@ import * as phone from './page_phone.mjs';
 import * as pictures from './page_pictures.mjs';
 import * as points from './page_points.mjs';
 import * as repairs from './page_repairs.mjs';
+import * as safe from './page_safe.mjs';
 import * as screens from './page_screens.mjs';
 import * as sharing from './page_sharing.mjs';
 import * as stored from './page_stored.mjs';
@@ -42,6 +43,7 @@ if (!process.env.NONOBENCH)
   console.log('no program: what is shown is not compared with a session (set NONOBENCH)');
 const rooms = {
   books,
+  safe,
   drawing,
   languages,
   lasting,
