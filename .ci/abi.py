@@ -279,19 +279,19 @@ PLANTED = [
     (GUARD, "unsigned close_within(u64 desk, unsigned handle)", "unsigned close_within(u64 desk)"),
     (
         GUARD,
-        "nonobench_prove(void *, const byte *, u64, const byte *, u64);",
-        "nonobench_prove(void *, const byte *, u64);",
+        "const byte *, u64, _Bool, unsigned\n);",
+        "const byte *, u64, unsigned, unsigned\n);",
     ),
     (SCRIPT, "const MEMORY = 4;", "const MEMORY = 5;"),
     (
         SCRIPT,
-        "nonobench_prove(this.#cell, file.at, file.size, word.at, word.size)",
-        "nonobench_prove(this.#cell, file.at, file.size)",
+        "            complete,\n            format\n",
+        "            format\n",
     ),
     (
         PYTHON,
-        '"check_published": (number, [cell, *bytes_of, ',
-        '"check_published": (number, [cell, ',
+        '"check": (number, [cell, *bytes_of, ',
+        '"check": (number, [cell, ',
     ),
     (GUARD, "    u64 givens_size,\n", ""),
     (

@@ -52,7 +52,7 @@ CLAIMS = {
     'The checker alone does so, too': Claim(
         [
             ('check_host/src/calls.rt', call, 'checks')
-            for call in ('nonocheck_check', 'nonocheck_check_published')
+            for call in ('nonocheck_check', 'nonocheck_check_any_given')
         ]
     ),
     'A refused edit changes nothing': Claim(

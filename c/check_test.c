@@ -19,20 +19,20 @@ static uint32_t check(
   size_t length = strlen(picture);
   const uint8_t *file = (const uint8_t *)picture, *cert = (const uint8_t *)certificate;
   uint8_t *out = memset(said, '#', NONOCHECK_ROOM);
-  uint32_t status = givens
-                        ? nonocheck_check_published(
-                              file,
-                              length,
-                              cert,
-                              size,
-                              (const uint8_t *)givens,
-                              strlen(givens),
-                              BLACK,
-                              0,
-                              out,
-                              NONOCHECK_ROOM
-                          )
-                        : nonocheck_check(file, length, cert, size, BLACK, 0, out, NONOCHECK_ROOM);
+  uint32_t status =
+      givens ? nonocheck_check(
+                   file,
+                   length,
+                   cert,
+                   size,
+                   (const uint8_t *)givens,
+                   strlen(givens),
+                   BLACK,
+                   0,
+                   out,
+                   NONOCHECK_ROOM
+               )
+             : nonocheck_check_any_given(file, length, cert, size, BLACK, 0, out, NONOCHECK_ROOM);
   expect(
       strlen(said) < NONOCHECK_ROOM && said[NONOCHECK_ROOM - 1] == 0,
       "there is room for the text",
@@ -81,26 +81,28 @@ static void test_background(void) {
   char said[NONOCHECK_ROOM];
   uint8_t *out = (uint8_t *)said;
   expect(
-      nonocheck_check(file, size, cert, length, BLACK, 0, out, sizeof said) == NONOCHECK_DONE,
+      nonocheck_check_any_given(file, size, cert, length, BLACK, 0, out, sizeof said) ==
+          NONOCHECK_DONE,
       "on white",
       said
   );
   expect(strcmp(said, "certificate accepted\n") == 0, "it is told", said);
   expect(
-      nonocheck_check(file, size, cert, length, BLACK, 3, out, sizeof said) == NONOCHECK_REFUSED,
+      nonocheck_check_any_given(file, size, cert, length, BLACK, 3, out, sizeof said) ==
+          NONOCHECK_REFUSED,
       "on black",
       said
   );
   expect(strcmp(said, "certificate NotDone at line 3") == 0, "it is told", said);
   memset(said, '#', sizeof said);
   expect(
-      nonocheck_check(file, size, cert, length, BLACK, 2, out, 4) == NONOCHECK_OPTIONS,
+      nonocheck_check_any_given(file, size, cert, length, BLACK, 2, out, 4) == NONOCHECK_OPTIONS,
       "two samples",
       said
   );
   expect(memcmp(said, "\0\0\0\0#", 5) == 0, "no text", said);
   expect(
-      nonocheck_check_published(file, size, cert, length, file, 0, BLACK, 1, out, sizeof said) ==
+      nonocheck_check(file, size, cert, length, file, 0, BLACK, 1, out, sizeof said) ==
           NONOCHECK_OPTIONS,
       "one sample",
       said

@@ -53,8 +53,9 @@ enum {
   NONOBENCH_MEMORY =
       4, /* out of memory; of nonobench_say also: the lines have more than 4294963200 bytes */
   NONOBENCH_CLOSED = 5, /* no bench has the handle */
-  NONOBENCH_OPTIONS = 6 /* background, history or allowance is of another form; of the functions at
-                           the end of this file, also: a null comes with a length above 0 */
+  NONOBENCH_OPTIONS =
+      6 /* background, history, allowance or format is of another form; of the functions at
+           the end of this file, also: a null comes with a length above 0 */
 };
 
 /* ---- the calls of the library */
@@ -99,29 +100,31 @@ size_t nonobench_take(nonobench_desk **desk, uint8_t *out, size_t room);
  * thousands, give each a desk of its own, and end that. */
 uint32_t nonobench_close(nonobench_desk **desk, uint32_t handle);
 
-/* Checks a certificate of a P3 picture, in any of its forms. It may have any givens. */
+/* Checks a certificate of a P3 picture, in any of its forms. `published` is the file of the givens
+ * that are published, a line `given R C` each; if it is empty, none is. An accepted certificate
+ * proves that no other picture has the clues and the colours in the published cells. If it names
+ * another cell, the text is `certificate UnpublishedGiven at line N`; if the file of givens is
+ * refused, `givens NAME at line N`. */
 uint32_t nonobench_check(
     nonobench_desk **desk,
     const uint8_t *picture,
     size_t picture_size,
     const uint8_t *certificate,
     size_t certificate_size,
+    const uint8_t *published,
+    size_t published_size,
     const uint8_t *background,
     size_t background_size
 );
 
-/* The same with a file of the givens that are published, a line `given R C` each. One that is
- * accepted proves that no other picture has the clues and the colours in the published cells. If it
- * names another cell, the text is `certificate UnpublishedGiven at line N`; if the file of givens
- * is refused, `givens NAME at line N`. */
-uint32_t nonobench_check_published(
+/* The same for a certificate that may name any givens, even all cells: for whoever then publishes
+ * these. */
+uint32_t nonobench_check_any_given(
     nonobench_desk **desk,
     const uint8_t *picture,
     size_t picture_size,
     const uint8_t *certificate,
     size_t certificate_size,
-    const uint8_t *givens,
-    size_t givens_size,
     const uint8_t *background,
     size_t background_size
 );
@@ -147,15 +150,22 @@ uint32_t nonobench_assess(
     uint32_t allowance
 );
 
-/* Makes a certificate with lemmas of a P3 picture, without givens: the text. If another picture
- * with the clues was found, the text is `ambiguous` with a line feed; if neither was found within
- * the bounds of the search, `undecided`. It may take minutes. */
+/* Makes a certificate of a P3 picture, as `nonobench prove` does: the text. Its givens are exactly
+ * those of the file `published`, which may be empty. It is the shortest that was found: one with
+ * lemmas, in the form `nonolemma 1` or `nonolemma 2` that `format` names (1 or 2), or a tree. If
+ * another picture with the clues and the colours in these givens was found, the text is `ambiguous`
+ * with a line feed; if neither was found within the bounds of the search, `undecided`. A search
+ * that is `complete` has no bounds. It may take minutes, and then any time. */
 uint32_t nonobench_prove(
     nonobench_desk **desk,
     const uint8_t *picture,
     size_t picture_size,
+    const uint8_t *published,
+    size_t published_size,
     const uint8_t *background,
-    size_t background_size
+    size_t background_size,
+    bool complete,
+    uint32_t format
 );
 
 /* ---- one question each: C, tested and not proved */
@@ -258,14 +268,18 @@ uint32_t nonobench_certify(
     nonobench_text *text
 );
 
-/* A certificate with lemmas of a P3 picture, without givens: shorter, or where nonobench_certify
- * takes too long. The search has bounds, and may take minutes; if it reaches a bound, the ruling is
- * UNDECIDED. The text is `unique`, `ambiguous` or `undecided` with a line feed, or why the picture
- * is refused; `text` may be null. */
+/* A certificate of a P3 picture whose givens are exactly the published cells, by default none. It
+ * is shorter than that of nonobench_certify, and there where that takes too long. The search has
+ * bounds unless it is `complete`, and may take minutes; if it reaches a bound, the ruling is
+ * UNDECIDED. `format` is 2, or 1 for a certificate with lemmas that is `nonolemma 1`. The text is
+ * `unique`, `ambiguous` or `undecided` with a line feed, or why the picture or the published cells
+ * are refused. `options`, whose `any_given` must be false, and `text` may be null. */
 uint32_t nonobench_prove_picture(
     const void *picture,
     size_t size,
-    const char *background,
+    const nonobench_options *options,
+    bool complete,
+    uint32_t format,
     nonobench_audited *found,
     nonobench_text *text
 );

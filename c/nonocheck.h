@@ -46,31 +46,32 @@ enum {
 /* The version of the library, as `nonobench --version` prints it after the name. */
 void nonocheck_version(uint8_t *out, size_t room);
 
-/* Checks a certificate of a P3 picture, in any of its forms. It may have any givens, and these may
- * be all cells: the text says how many. `background` is three samples, red, green and blue as the
+/* Checks a certificate of a P3 picture, in any of its forms. `published` is the file of the givens
+ * that are published, a line `given R C` each; if it is empty, none is. An accepted certificate
+ * proves that no other picture has the clues and the colours in the published cells. If it names
+ * another cell, the text is `certificate UnpublishedGiven at line N`; if the file of givens is
+ * refused, `givens NAME at line N`. `background` is three samples, red, green and blue as the
  * picture has them, or none (samples 0) for white. */
 uint32_t nonocheck_check(
     const uint8_t *picture,
     size_t picture_size,
     const uint8_t *certificate,
     size_t certificate_size,
+    const uint8_t *published,
+    size_t published_size,
     const uint16_t *background,
     size_t samples,
     uint8_t *out,
     size_t room
 );
 
-/* The same with a file of the givens that are published, a line `given R C` each, which may be
- * empty. One that is accepted proves that no other picture has the clues and the colours in the
- * published cells. If it names another cell, the text is `certificate UnpublishedGiven at line N`;
- * if the file of givens is refused, `givens NAME at line N`. */
-uint32_t nonocheck_check_published(
+/* The same for a certificate that may name any givens, even all cells: the text says how many. It
+ * is for whoever then publishes these. */
+uint32_t nonocheck_check_any_given(
     const uint8_t *picture,
     size_t picture_size,
     const uint8_t *certificate,
     size_t certificate_size,
-    const uint8_t *givens,
-    size_t givens_size,
     const uint16_t *background,
     size_t samples,
     uint8_t *out,

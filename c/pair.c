@@ -145,6 +145,9 @@ size_t nonobench_givens(
   return count;
 }
 
+/* What goes with a picture where nothing is passed. */
+static const nonobench_options NO_OPTIONS = {NULL, NULL, 0, false};
+
 /* The bytes of a line `given R C` at the most. */
 #define MOST_GIVEN 28
 
@@ -187,8 +190,7 @@ uint32_t nonobench_check_pair(
     const nonobench_options *options,
     nonobench_text *text
 ) {
-  static const nonobench_options NONE = {NULL, NULL, 0, false};
-  const nonobench_options *asked = options ? options : &NONE;
+  const nonobench_options *asked = options ? options : &NO_OPTIONS;
   const uint8_t *file = bytes_of(picture), *cert = bytes_of(certificate),
                 *word = bytes_of(asked->background);
   size_t word_size = length_of(asked->background), size = 0;
@@ -199,20 +201,21 @@ uint32_t nonobench_check_pair(
   if (status == NONOBENCH_DONE) status = write_givens(asked, &givens, &size, text);
   if (status == NONOBENCH_DONE) status = start(&desk, text);
   if (status == NONOBENCH_DONE) {
-    status =
-        asked->any_given
-            ? nonobench_check(&desk, file, picture_size, cert, certificate_size, word, word_size)
-            : nonobench_check_published(
-                  &desk,
-                  file,
-                  picture_size,
-                  cert,
-                  certificate_size,
-                  bytes_of(givens),
-                  size,
-                  word,
-                  word_size
-              );
+    status = asked->any_given
+                 ? nonobench_check_any_given(
+                       &desk, file, picture_size, cert, certificate_size, word, word_size
+                   )
+                 : nonobench_check(
+                       &desk,
+                       file,
+                       picture_size,
+                       cert,
+                       certificate_size,
+                       bytes_of(givens),
+                       size,
+                       word,
+                       word_size
+                   );
     tell(&desk, status, text);
     nonobench_end(desk);
   }
@@ -339,25 +342,53 @@ uint32_t nonobench_certify(
   return status;
 }
 
+/* Whether a certificate can be made so: DONE, or OPTIONS with its text. */
+static uint32_t look_proving(
+    const nonobench_options *asked, uint32_t format, nonobench_text *text
+) {
+  if (!asked->any_given && (format == 1 || format == 2)) return NONOBENCH_DONE;
+  put(text, asked->any_given ? "any_given goes with a certificate" : "format must be 1 or 2");
+  return NONOBENCH_OPTIONS;
+}
+
 uint32_t nonobench_prove_picture(
     const void *picture,
     size_t size,
-    const char *background,
+    const nonobench_options *options,
+    bool complete,
+    uint32_t format,
     nonobench_audited *found,
     nonobench_text *text
 ) {
   static const char *const RULINGS[] = {"undecided\n", "unique\n", "ambiguous\n"};
+  const nonobench_options *asked = options ? options : &NO_OPTIONS;
+  const uint8_t *word = bytes_of(asked->background);
+  size_t word_size = length_of(asked->background), published_size = 0;
+  char *published = NULL;
   nonobench_desk *desk;
   uint32_t status = look(picture, size, text);
   *found = (nonobench_audited){NONOBENCH_UNDECIDED, NULL, 0};
+  if (status == NONOBENCH_DONE) status = look_proving(asked, format, text);
+  if (status == NONOBENCH_DONE) status = write_givens(asked, &published, &published_size, text);
   if (status == NONOBENCH_DONE) status = start(&desk, text);
-  if (status != NONOBENCH_DONE) return status;
-  status =
-      nonobench_prove(&desk, bytes_of(picture), size, bytes_of(background), length_of(background));
-  status = keep(&desk, status, found, text);
-  nonobench_end(desk);
+  if (status == NONOBENCH_DONE) {
+    status = nonobench_prove(
+        &desk,
+        bytes_of(picture),
+        size,
+        bytes_of(published),
+        published_size,
+        word,
+        word_size,
+        complete,
+        format
+    );
+    status = keep(&desk, status, found, text);
+    nonobench_end(desk);
+    if (status == NONOBENCH_DONE) put(text, RULINGS[found->ruling]);
+  }
+  free(published);
   if (status != NONOBENCH_DONE) found->ruling = NONOBENCH_UNDECIDED;
-  if (status == NONOBENCH_DONE) put(text, RULINGS[found->ruling]);
   return status;
 }
 
@@ -505,9 +536,10 @@ static uint32_t publish_named(
     nonobench_place **places,
     nonobench_text *text
 ) {
-  uint32_t status =
-      desk ? nonobench_check(desk, files[0], sizes[0], files[1], sizes[1], files[2], sizes[2])
-           : NONOBENCH_DONE;
+  uint32_t status = desk ? nonobench_check_any_given(
+                               desk, files[0], sizes[0], files[1], sizes[1], files[2], sizes[2]
+                           )
+                         : NONOBENCH_DONE;
   if (status != NONOBENCH_DONE) return tell(desk, status, text);
   asked->published_count = nonobench_givens(files[1], sizes[1], NULL, 0);
   status = reserve((void **)places, (asked->published_count + 1) * sizeof **places, text);
@@ -528,7 +560,7 @@ uint32_t nonobench_assess_puzzle(
     nonobench_assessment *found,
     nonobench_text *text
 ) {
-  nonobench_options asked = options ? *options : (nonobench_options){NULL, NULL, 0, false};
+  nonobench_options asked = options ? *options : NO_OPTIONS;
   const uint8_t *files[] = {bytes_of(puzzle), bytes_of(certificate), bytes_of(asked.background)};
   const size_t sizes[] = {puzzle_size, certificate_size, length_of(asked.background)};
   size_t size = 0;

@@ -320,13 +320,15 @@ static void test_certificates(void) {
  * which no line can prove. */
 static void test_lemmas(void) {
   static const char wrong[] = "nonolemma 1\nline r 1\nline c 1\nline r 2\nline c 2\ndone\n";
+  static const nonobench_options ODD = {"0,0", NULL, 0, false},
+                                 ON_BLACK = {"0,0,0", NULL, 0, false};
   char said[MOST], rows[] = "a./.b", picture[MOST];
   nonobench_text text = {said, sizeof said, 0};
   nonobench_audited found;
   picture_of(rows, strlen(rows), picture);
   size_t size = strlen(picture);
   expect(
-      nonobench_prove_picture(picture, size, NULL, &found, &text) == NONOBENCH_DONE,
+      nonobench_prove_picture(picture, size, NULL, false, 2, &found, &text) == NONOBENCH_DONE,
       "a certificate",
       said
   );
@@ -367,7 +369,8 @@ static void test_lemmas(void) {
   );
   free(found.certificate);
   expect(
-      nonobench_prove_picture(DIAGONAL, strlen(DIAGONAL), NULL, &found, &text) == NONOBENCH_DONE,
+      nonobench_prove_picture(DIAGONAL, strlen(DIAGONAL), NULL, false, 2, &found, &text) ==
+          NONOBENCH_DONE,
       "no certificate",
       said
   );
@@ -384,14 +387,14 @@ static void test_lemmas(void) {
   );
   expect(strcmp(said, "certificate NotDone at line 6") == 0, "it is said", said);
   expect(
-      nonobench_prove_picture("P4", 2, NULL, &found, &text) == NONOBENCH_REFUSED &&
+      nonobench_prove_picture("P4", 2, NULL, false, 2, &found, &text) == NONOBENCH_REFUSED &&
           !found.certificate,
       "no picture",
       said
   );
   expect(strcmp(said, "ppm NotP3 at byte 0") == 0, "it is said", said);
   expect(
-      nonobench_prove_picture(picture, size, "0,0", &found, &text) == NONOBENCH_OPTIONS,
+      nonobench_prove_picture(picture, size, &ODD, false, 2, &found, &text) == NONOBENCH_OPTIONS,
       "no background",
       said
   );
@@ -399,7 +402,7 @@ static void test_lemmas(void) {
   picture_of("..a/.a.", 7, picture);
   size = strlen(picture);
   expect(
-      nonobench_prove_picture(picture, size, "0,0,0", &found, NULL) == NONOBENCH_DONE &&
+      nonobench_prove_picture(picture, size, &ON_BLACK, false, 2, &found, NULL) == NONOBENCH_DONE &&
           found.certificate,
       "a background",
       ""
@@ -411,6 +414,66 @@ static void test_lemmas(void) {
       said
   );
   free(found.certificate);
+}
+
+/* A certificate is made with exactly the published cells, in the form that is asked for. The
+ * diagonal has another picture, and none with the first cell. */
+static void test_given_proofs(void) {
+  static const nonobench_place outside = {3, 1};
+  static const nonobench_options far = {NULL, &outside, 1, false}, some = {NULL, NULL, 1, false};
+  char said[MOST];
+  nonobench_text text = {said, sizeof said, 0};
+  nonobench_place place = {0, 0};
+  nonobench_audited found;
+  size_t size = strlen(DIAGONAL);
+  for (uint32_t format = 1; format <= 2; format++) {
+    expect(
+        nonobench_prove_picture(DIAGONAL, size, &ONE, format == 1, format, &found, &text) ==
+                NONOBENCH_DONE &&
+            found.ruling == NONOBENCH_UNIQUE,
+        "a certificate with a given",
+        said
+    );
+    expect(
+        nonobench_givens(found.certificate, found.certificate_size, &place, 1) == 1 &&
+            place.row == 1 && place.column == 1,
+        "it names the given",
+        found.certificate
+    );
+    expect(
+        nonobench_check_pair(
+            DIAGONAL, size, found.certificate, found.certificate_size, &ONE, NULL
+        ) == NONOBENCH_DONE,
+        "it is accepted",
+        found.certificate
+    );
+    free(found.certificate);
+  }
+  expect(
+      nonobench_prove_picture(DIAGONAL, size, &far, false, 2, &found, &text) == NONOBENCH_REFUSED &&
+          strcmp(said, "givens Place at line 1") == 0,
+      "a given outside",
+      said
+  );
+  expect(
+      nonobench_prove_picture(DIAGONAL, size, &ANY, false, 2, &found, &text) == NONOBENCH_OPTIONS &&
+          strcmp(said, "any_given goes with a certificate") == 0,
+      "any given",
+      said
+  );
+  expect(
+      nonobench_prove_picture(DIAGONAL, size, &some, false, 2, &found, &text) ==
+              NONOBENCH_OPTIONS &&
+          strcmp(said, "a null beside a length") == 0,
+      "a null for the cells",
+      said
+  );
+  expect(
+      nonobench_prove_picture(DIAGONAL, size, &ONE, false, 0, &found, &text) == NONOBENCH_OPTIONS &&
+          strcmp(said, "format must be 1 or 2") == 0 && !found.certificate,
+      "no such form",
+      said
+  );
 }
 
 /* Nothing at all, nulls, and lengths above what a file may have. */
@@ -474,7 +537,7 @@ static void test_bad_input(void) {
   /* The library itself takes any length. */
   expect(nonobench_start(&desk) == NONOBENCH_DONE, "a desk", "");
   expect(
-      nonobench_check(
+      nonobench_check_any_given(
           &desk, (uint8_t *)big, most + 1, (uint8_t *)big, most + 1, (uint8_t *)"", 0
       ) == NONOBENCH_REFUSED,
       "long",
@@ -515,7 +578,7 @@ static void test_nulls(void) {
       ""
   );
   expect(
-      nonobench_prove_picture(NULL, 1, NULL, &found, NULL) == NONOBENCH_OPTIONS,
+      nonobench_prove_picture(NULL, 1, NULL, false, 2, &found, NULL) == NONOBENCH_OPTIONS,
       "a null for one with lemmas",
       ""
   );
@@ -530,8 +593,8 @@ static void test_no_text(void) {
   uint32_t handle;
   uint8_t none;
   expect(nonobench_start(&desk) == NONOBENCH_DONE, "a desk", "");
-  for (int which = 0; which < 6; which++) {
-    uint32_t status = nonobench_check(&desk, picture, size, picture, size, picture, 0);
+  for (int which = 0; which < 7; which++) {
+    uint32_t status = nonobench_check_any_given(&desk, picture, size, picture, size, picture, 0);
     expect(
         status == NONOBENCH_REFUSED && nonobench_take(&desk, &none, 0) == 29,
         "a text stands there",
@@ -540,11 +603,21 @@ static void test_no_text(void) {
     status = which == 0   ? nonobench_say(&desk, 1, picture, size)
              : which == 1 ? nonobench_close(&desk, 1)
              : which == 2 ? nonobench_open(&desk, picture, size, false, picture, 0, 0, &handle)
-             : which == 3 ? nonobench_check(&desk, picture, size, picture, size, picture, size)
-             : which == 4 ? nonobench_check_published(
-                                &desk, picture, size, picture, size, picture, 0, picture, size
-                            )
-                          : nonobench_prove(&desk, picture, size, picture, size);
+             : which == 3
+                 ? nonobench_check_any_given(&desk, picture, size, picture, size, picture, size)
+             : which == 4
+                 ? nonobench_check(&desk, picture, size, picture, size, picture, 0, picture, size)
+                 : nonobench_prove(
+                       &desk,
+                       picture,
+                       size,
+                       picture,
+                       0,
+                       picture,
+                       which == 5 ? size : 0,
+                       false,
+                       which == 5 ? 2 : 3
+                   );
     expect(status == (which < 2 ? NONOBENCH_CLOSED : NONOBENCH_OPTIONS), "it is refused", "");
     expect(nonobench_take(&desk, &none, 0) == 0, "no text stands there", "");
   }
@@ -697,13 +770,15 @@ static void *call_each(void *given) {
   *holds = *holds && nonobench_certify(TILE, strlen(TILE), NULL, &found, NULL) == NONOBENCH_DONE &&
            found.certificate;
   free(found.certificate);
-  *holds = *holds &&
-           nonobench_prove_picture(TILE, strlen(TILE), NULL, &found, NULL) == NONOBENCH_DONE &&
-           found.certificate;
+  *holds =
+      *holds &&
+      nonobench_prove_picture(TILE, strlen(TILE), NULL, false, 2, &found, NULL) == NONOBENCH_DONE &&
+      found.certificate;
   free(found.certificate);
-  *holds = *holds &&
-           nonobench_prove_picture(OPEN, strlen(OPEN), NULL, &found, NULL) == NONOBENCH_DONE &&
-           found.certificate;
+  *holds =
+      *holds &&
+      nonobench_prove_picture(OPEN, strlen(OPEN), NULL, false, 2, &found, NULL) == NONOBENCH_DONE &&
+      found.certificate;
   free(found.certificate);
   free(picture);
   return NULL;
@@ -757,7 +832,8 @@ static void test_growth(int times) {
             found.certificate;
     free(found.certificate);
     holds = holds &&
-            nonobench_prove_picture(TILE, strlen(TILE), NULL, &found, NULL) == NONOBENCH_DONE &&
+            nonobench_prove_picture(TILE, strlen(TILE), NULL, false, 2, &found, NULL) ==
+                NONOBENCH_DONE &&
             found.certificate;
     holds = holds && nonobench_check_pair(
                          TILE, strlen(TILE), found.certificate, found.certificate_size, NULL, NULL
@@ -798,6 +874,7 @@ int main(int count, char **words) {
   test_places();
   test_certificates();
   test_lemmas();
+  test_given_proofs();
   test_bad_input();
   test_nulls();
   test_no_text();

@@ -92,7 +92,7 @@ async function answer({module, picture, certificate, background, givens, allowed
   if (engine.broken) return engine;
   try {
     const {verdict, flaws, text} =
-        engine.assess(picture, {background, givens, certificate, format: 'ppm'});
+        engine.assess(picture, {background, published: givens, certificate, format: 'ppm'});
     const why = flaws.filter((flaw) => !isAllowed(flaw, allowed)).map((flaw) => `flaw ${flaw}`);
     return {accepted: verdict === 'unique' && why.length === 0, text: why.join('; ') || text};
   } catch (fault) {

@@ -60,18 +60,17 @@ const placesOf = (word) =>
 
 /**
  * Checks that a call which checks a pair answers as published.case says: it gets a picture, a
- * certificate and the published cells.
+ * certificate and the options.
  */
 export function mustCheckPublished(check) {
   const cases = casesOf('published');
   for (const [asked, answer] of cases) {
     const [cells, published, ...lines] = asked.split(' '), [given, ...told] = answer.split(' ');
     const [accepted, text] = answerOf(told.join(' '));
-    const said = check(
-        pictureOf(cells),
-        bytesOf(lines.join(' ')),
-        published === 'any' ? published : placesOf(published)
-    );
+    const said =
+        check(pictureOf(cells), bytesOf(lines.join(' ')), published === 'any' ? {anyGiven: true} : {
+          published: placesOf(published)
+        });
     assert.deepEqual(
         said, {accepted, status: accepted ? 0 : 1, text, givens: placesOf(given)}, asked
     );

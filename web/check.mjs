@@ -2,12 +2,13 @@
 // that a picture is the only solution. It runs in browsers and in node from version 18 on.
 // web/build puts what it imports into it.
 //
-//     const checker = await load(bytes)                          // the bytes of
-//     nonobench-check.wasm checker.check(picture, certificate, {givens: [[1, 1]]})    // {accepted,
-//     status, text, givens} checker.flaws(picture, {background: '0,0,0'})              // such as
-//     ['blank', 'alike a b'] checker.version                                            // as
-//     `nonobench --version` prints it after the name
-import {backgroundOf, checkedOf, Fault, inputOf, instanceOf, own, publishedOf, refusalOf, Runs} from './nonobench.mjs';
+//     const checker = await load(bytes)  // the bytes of nonobench-check.wasm
+//
+// - checker.check(picture, certificate, {published: [[1, 1]]}) gives {accepted, status, text,
+// givens}.
+// - checker.flaws(picture, {background: '0,0,0'}) gives such as ['blank', 'alike a b'].
+// - checker.version is as `nonobench --version` prints it after the name.
+import {backgroundOf, checkedOf, Fault, inputOf, instanceOf, isAnyGiven, publishedOf, refusalOf, Runs} from './nonobench.mjs';
 
 export {Fault};
 
@@ -47,18 +48,17 @@ class Checker {
 
   /**
    * Checks a certificate of a picture, in any of its forms, and answers the program's text and
-   * status: 0 if it is accepted. `givens` are the cells that are published, [row, column] each, or
-   * a file with a line `given R C` for each; by default none. A certificate that names another
+   * status: 0 if it is accepted. `published` are the cells that are published, [row, column] each,
+   * or a file with a line `given R C` for each; by default none. A certificate that names another
    * given is refused with the text `certificate UnpublishedGiven at line N`. The answer has the
-   * givens that the certificate names, if its proof is right. 'any' accepts whatever it names, for
-   * a site that then publishes these cells.
+   * givens that the certificate names, if its proof is right. `anyGiven: true` accepts whatever it
+   * names, for a site that then publishes these cells.
    */
   check(picture, certificate, options = {}) {
-    const samples = samplesOf(options), published = publishedOf(own(options, 'givens'));
+    const samples = samplesOf(options), isAny = isAnyGiven(options);
     const cert = inputOf(certificate);  // what is checked here, and what the givens are read of
-    const files = [inputOf(picture), cert, ...(published === null ? [] : [inputOf(published)])];
-    const call =
-        published === null ? this.#calls.nonocheck_check : this.#calls.nonocheck_check_published;
+    const files = [inputOf(picture), cert, ...(isAny ? [] : [publishedOf(options)])];
+    const call = isAny ? this.#calls.nonocheck_check_any_given : this.#calls.nonocheck_check;
     const {status, out} = this.#lend(files, samples, ROOM, call);
     if (status !== DONE && status !== REFUSED) this.#refuse(status, 'background must be R,G,B');
     return checkedOf(status, textOf(out), cert);

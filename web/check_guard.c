@@ -5,9 +5,11 @@
 typedef unsigned short sample;
 
 void nonocheck_version(byte *, u64);
-unsigned nonocheck_check(const byte *, u64, const byte *, u64, const sample *, u64, byte *, u64);
-unsigned nonocheck_check_published(
+unsigned nonocheck_check(
     const byte *, u64, const byte *, u64, const byte *, u64, const sample *, u64, byte *, u64
+);
+unsigned nonocheck_check_any_given(
+    const byte *, u64, const byte *, u64, const sample *, u64, byte *, u64
 );
 unsigned nonocheck_flaws(const byte *, u64, const sample *, u64, _Bool *, _Bool *, byte *, u64);
 
@@ -24,20 +26,20 @@ void version_within(u64 out, u64 room) {
   if (is_within(out, room)) nonocheck_version(here(out), room);
 }
 
-CALL(check)
-unsigned check_within(
+CALL(check_any_given)
+unsigned check_any_given_within(
     u64 file, u64 size, u64 cert, u64 cert_size, u64 background, u64 count, u64 out, u64 room
 ) {
   if (!is_within(file, size) || !is_within(cert, cert_size) || !are_within(background, count) ||
       !is_within(out, room))
     return OPTIONS;
-  return nonocheck_check(
+  return nonocheck_check_any_given(
       here(file), size, here(cert), cert_size, here(background), count, here(out), room
   );
 }
 
-CALL(check_published)
-unsigned check_published_within(
+CALL(check)
+unsigned check_within(
     u64 file,
     u64 size,
     u64 cert,
@@ -52,7 +54,7 @@ unsigned check_published_within(
   if (!is_within(file, size) || !is_within(cert, cert_size) || !is_within(givens, givens_size))
     return OPTIONS;
   if (!are_within(background, count) || !is_within(out, room)) return OPTIONS;
-  return nonocheck_check_published(
+  return nonocheck_check(
       here(file),
       size,
       here(cert),

@@ -43,14 +43,14 @@ test('it is small, and imports nothing', () => {
 test('certificates of all forms are answered as the cases say', async () => {
   const checker = await load(bytes);
   mustCheckForms(
-      (picture, certificate) => answerOf(checker, picture, certificate, {givens: 'any'})
+      (picture, certificate) => answerOf(checker, picture, certificate, {anyGiven: true})
   );
 });
 
 test('a certificate is accepted where its givens are among those that are published', async () => {
   const checker = await load(bytes);
   mustCheckPublished(
-      (picture, certificate, givens) => answerOf(checker, picture, certificate, {givens})
+      (picture, certificate, options) => answerOf(checker, picture, certificate, options)
   );
 });
 
@@ -63,20 +63,22 @@ test('givens as places and as a file', async () => {
     text: 'certificate UnpublishedGiven at line 2',
     givens: [[1, 1]]
   };
-  for (const options of [undefined, null, {}, {givens: null}, {givens: [[1, 2]]}])
+  for (const options of [undefined, null, {}, {published: null}, {published: [[1, 2]]}])
     assert.deepEqual(answerOf(checker, PICTURE, CERTIFICATE, options), refused);
   for (const givens
            of ['given 1 1\n', new TextEncoder().encode('given 2 2\ngiven 1 1'), [[2, 2], [1, 1]]]) {
-    assert.deepEqual(answerOf(checker, PICTURE, CERTIFICATE, {givens}).accepted, true);
+    assert.deepEqual(answerOf(checker, PICTURE, CERTIFICATE, {published: givens}).accepted, true);
   }
   for (const [givens, name] of [
            ['all', 'BadLine at line 1'],
            [[[1, 1], [0, 1]], 'Place at line 2'],
            [[[1, 1], [1, 1]], 'Repeated at line 2']]) {
-    assert.deepEqual(answerOf(checker, PICTURE, CERTIFICATE, {givens}).text, `givens ${name}`);
+    assert.deepEqual(
+        answerOf(checker, PICTURE, CERTIFICATE, {published: givens}).text, `givens ${name}`
+    );
   }
   assert.deepEqual(answerOf(checker, 'P4\n', CERTIFICATE).text, 'ppm NotP3 at byte 0');
-  assert.throws(() => checker.check(PICTURE, CERTIFICATE, {givens: [[1]]}), TypeError);
+  assert.throws(() => checker.check(PICTURE, CERTIFICATE, {published: [[1]]}), TypeError);
   const two = 'P3 2 1 255 0 0 0 9 9 9\n', plain = 'nonocert 1\nline r 1\ndone\n';
   assert.equal(answerOf(checker, two, plain).status, 0);
   assert.equal(
@@ -131,7 +133,7 @@ test('flaws that show without a search', async () => {
 test('an option is a property of the object itself', async () => {
   const checker = await load(bytes);
   Object.assign(
-      Object.prototype, {givens: 'any', background: '0,0,0'}
+      Object.prototype, {anyGiven: true, background: '0,0,0'}
   );  // eslint-disable-line no-extend-native
   try {
     for (const options of [undefined, null, {}])
@@ -139,7 +141,7 @@ test('an option is a property of the object itself', async () => {
           checker.check(PICTURE, ALL, options).text, 'certificate UnpublishedGiven at line 2'
       );
   } finally {
-    for (const name of ['givens', 'background']) delete Object.prototype[name];
+    for (const name of ['anyGiven', 'background']) delete Object.prototype[name];
   }
 });
 
@@ -173,14 +175,12 @@ test('what does not lie within the memory is refused, and nothing is written', a
                [at, 0n, at, 0n, at, 0n, end - 95n, 96n],
                [at, 0n, at, 0n, at, 0n, 2n ** 32n, 1n],
   ]) {
-    assert.equal(calls.nonocheck_check(...words), 6, String(words));
+    assert.equal(calls.nonocheck_check_any_given(...words), 6, String(words));
     assert.equal(
-        calls.nonocheck_check_published(...words.slice(0, 4), at, 0n, ...words.slice(4)),
-        6,
-        String(words)
+        calls.nonocheck_check(...words.slice(0, 4), at, 0n, ...words.slice(4)), 6, String(words)
     );
   }
-  assert.equal(calls.nonocheck_check_published(at, 0n, at, 0n, end, 1n, at, 0n, at, 96n), 6);
+  assert.equal(calls.nonocheck_check(at, 0n, at, 0n, end, 1n, at, 0n, at, 96n), 6);
   for (const words
            of [[at, end, at, 0n, at, at, at, 96n],
                [at, 0n, at, 0n, end, at, at, 96n],

@@ -9,11 +9,13 @@ unsigned nonobench_open(void *, const byte *, u64, _Bool, const byte *, u64, uns
 unsigned nonobench_say(void *, unsigned, const byte *, u64);
 u64 nonobench_take(void *, byte *, u64);
 unsigned nonobench_close(void *, unsigned);
-unsigned nonobench_check(void *, const byte *, u64, const byte *, u64, const byte *, u64);
-unsigned nonobench_check_published(
+unsigned nonobench_check(
     void *, const byte *, u64, const byte *, u64, const byte *, u64, const byte *, u64
 );
-unsigned nonobench_prove(void *, const byte *, u64, const byte *, u64);
+unsigned nonobench_check_any_given(void *, const byte *, u64, const byte *, u64, const byte *, u64);
+unsigned nonobench_prove(
+    void *, const byte *, u64, const byte *, u64, const byte *, u64, _Bool, unsigned
+);
 unsigned nonobench_assess(
     void *,
     const byte *,
@@ -82,19 +84,19 @@ u64 take_within(u64 desk, u64 out, u64 room) {
 CALL(close)
 unsigned close_within(u64 desk, unsigned handle) { return nonobench_close(here(desk), handle); }
 
-CALL(check)
-unsigned check_within(
+CALL(check_any_given)
+unsigned check_any_given_within(
     u64 desk, u64 file, u64 size, u64 cert, u64 cert_size, u64 word, u64 word_size
 ) {
   if (!is_within(file, size) || !is_within(cert, cert_size) || !is_within(word, word_size))
     return refuse(desk);
-  return nonobench_check(
+  return nonobench_check_any_given(
       here(desk), here(file), size, here(cert), cert_size, here(word), word_size
   );
 }
 
-CALL(check_published)
-unsigned check_published_within(
+CALL(check)
+unsigned check_within(
     u64 desk,
     u64 file,
     u64 size,
@@ -108,7 +110,7 @@ unsigned check_published_within(
   if (!is_within(file, size) || !is_within(cert, cert_size) || !is_within(givens, givens_size) ||
       !is_within(word, word_size))
     return refuse(desk);
-  return nonobench_check_published(
+  return nonobench_check(
       here(desk),
       here(file),
       size,
@@ -122,9 +124,30 @@ unsigned check_published_within(
 }
 
 CALL(prove)
-unsigned prove_within(u64 desk, u64 file, u64 size, u64 word, u64 word_size) {
-  if (!is_within(file, size) || !is_within(word, word_size)) return refuse(desk);
-  return nonobench_prove(here(desk), here(file), size, here(word), word_size);
+unsigned prove_within(
+    u64 desk,
+    u64 file,
+    u64 size,
+    u64 givens,
+    u64 givens_size,
+    u64 word,
+    u64 word_size,
+    unsigned complete,
+    unsigned format
+) {
+  if (!is_within(file, size) || !is_within(givens, givens_size) || !is_within(word, word_size))
+    return refuse(desk);
+  return nonobench_prove(
+      here(desk),
+      here(file),
+      size,
+      here(givens),
+      givens_size,
+      here(word),
+      word_size,
+      complete != 0,
+      format
+  );
 }
 
 CALL(assess)

@@ -29,13 +29,21 @@ export type Place = readonly [row: number, column: number];
 export interface CheckOptions {
   /** The colour of the background, 'r,g,b'; by default white. */
   background?: string | null;
-  /** The cells whose colours are published, or a file with a line `given R C` for each; by default none. 'any' accepts all givens. */
-  givens?: readonly Place[] | Input | 'any' | null;
+  /** The cells whose colours are published, or a file with a line `given R C` for each; by default none. */
+  published?: readonly Place[] | Input | null;
+  /** Whether a certificate may name any givens: for a site that then publishes these. */
+  anyGiven?: boolean;
 }
 
 export interface ProveOptions {
   /** The colour of the background, 'r,g,b'; by default white. */
   background?: string | null;
+  /** The cells whose colours are published, or a file with a line `given R C` for each; by default none. The certificate names exactly these. */
+  published?: readonly Place[] | Input | null;
+  /** Whether the search goes on until it has decided, which may take any time; by default it has bounds. */
+  complete?: boolean;
+  /** The form of a certificate with lemmas: 2 for `nonolemma 2`, the default, or 1 for `nonolemma 1`. */
+  format?: 1 | 2;
 }
 
 /** The answer to a picture and a certificate. */
@@ -50,9 +58,9 @@ export interface Checked {
   givens: Place[];
 }
 
-/** What the search for a certificate with lemmas found. */
+/** What the search for a certificate found. */
 export type Proved =
-  /** The certificate, which has no givens. */
+  /** The certificate, whose givens are the published cells. */
   | { ruling: 'unique'; certificate: string }
   /** Another picture has the clues; or neither such a picture nor a certificate was found within the bounds of the search. */
   | { ruling: 'ambiguous' | 'undecided'; certificate: null };
@@ -61,7 +69,7 @@ export interface AssessOptions {
   /** The colour of the background in a P3 picture, 'r,g,b', which then counts as named; by default white. */
   background?: string | null;
   /** The published cells, or a file with a line `given R C` for each; by default none. */
-  givens?: readonly Place[] | Input | null;
+  published?: readonly Place[] | Input | null;
   /** A certificate of the puzzle with these cells: nothing is searched. */
   certificate?: Input | null;
   /** How many splits the search of a part may make, 0 to 99999; by default there is no such bound, and a call may take very long. */
@@ -127,7 +135,7 @@ export interface Engine {
   check(picture: Input, certificate: Input, options?: CheckOptions): Checked;
   /** Assesses a puzzle: a P3 picture, or a .non text with a goal. Throws a Fault if it, the givens or the certificate is refused. */
   assess(puzzle: Input, options?: AssessOptions): Assessment;
-  /** Makes a certificate with lemmas. It may take minutes. */
+  /** Makes a certificate, with lemmas or a tree, whichever is shorter. It may take minutes. */
   prove(picture: Input, options?: ProveOptions): Proved;
   /** The clues of a file, a line each, as the program prints them. */
   clues(file: Input, options?: OpenOptions): string;
@@ -166,6 +174,30 @@ export function hintOf(text: string, certificate: Input): string;
 
 /** What an assessment says, of its text as the program or a session prints it. Throws a TypeError for another text. */
 export function readAssessment(text: string): Assessment;
+
+/** A cell of a line: its place along it, counted from 1, and the letters of the colours that are left there. */
+export interface LineCell {
+  place: number;
+  letters: string;
+}
+
+/** A look at a line that excluded something (docs/SESSION.md, Line logic). */
+export interface Look {
+  /** Of a row or of a column, whose number counts from 1. */
+  axis: 'r' | 'c';
+  number: number;
+  round: number;
+  excluded: number;
+  /** The cells that fell, each with the letter that is left. */
+  falls: LineCell[];
+  /** All blocks of the line stood before. */
+  stands: boolean;
+  /** What the look needs. None can be left out. */
+  premises: LineCell[];
+}
+
+/** The path of line logic, of its text as a session prints it for `path`. Throws a TypeError for another text. */
+export function readPath(text: string): { looks: Look[]; open: number };
 
 /** Makes an engine of nonobench.wasm: its bytes, or what WebAssembly.compile makes of them. */
 export function load(module: Uint8Array | ArrayBuffer | WebAssembly.Module): Promise<Engine>;

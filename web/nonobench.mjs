@@ -1,15 +1,16 @@
 // The workbench as a module of JavaScript: benches on pictures, and the check of certificates. It
 // imports nothing and runs in browsers and in node from version 18 on.
 //
-//     const engine = await load(bytes)                      // the bytes of nonobench.wasm
-//     const bench = engine.open(picture, {history: 100})    // a P3 picture or a two-colour .non
-//     text bench.say('clues\nverdict\n')                         // what the program `nonobench
-//     work` answers bench.close() engine.check(picture, certificate, {givens: [[1, 1]]})
-//     // {accepted, status, text, givens} engine.assess(picture, {background: '0,0,0'})
-//     // {verdict, .., grade, flaws, fit} engine.prove(picture) // {ruling, certificate}, a
-//     certificate with lemmas engine.clues(picture)                                 // what the
-//     program `nonobench` prints for it engine.version                                        // as
-//     `nonobench --version` prints it after the name
+//     const engine = await load(bytes)  // the bytes of nonobench.wasm
+//
+// - engine.open(picture, {history: 100}) makes a bench on a P3 picture or a two-colour .non text;
+//   bench.say('clues\nverdict\n') gives what the program `nonobench work` answers; bench.close().
+// - engine.check(picture, certificate, {published: [[1, 1]]}) gives {accepted, status, text,
+// givens}.
+// - engine.assess(picture, {background: '0,0,0'}) gives {verdict, .., grade, flaws, fit}.
+// - engine.prove(picture, {published: [[1, 1]]}) gives {ruling, certificate}.
+// - engine.clues(picture) gives what the program `nonobench` prints for it.
+// - engine.version is as `nonobench --version` prints it after the name.
 
 const DONE = 0;
 const MEMORY = 4;
@@ -110,27 +111,30 @@ function isNon(bytes) {
 
 const NONE = new Uint8Array(0);
 
-// The cells that are published as a file of givens: a line for each pair, or a text as it is; null
-// for 'any'. Each is an own property of its array, read once.
-function publishedOf(givens) {
-  if (givens === undefined || givens === null) return NONE;
-  if (givens === 'any') return null;
-  if (!Array.isArray(givens)) return givens;
-  if (givens.length > MOST_CELLS) throw new Fault('length', 'input too long');
+// The cells that are published as a file of givens: a line for each pair, or a text as it is. Each
+// is an own property of its array, read once.
+function publishedOf(options) {
+  const cells = own(options, 'published');
+  if (cells === undefined || cells === null) return NONE;
+  if (!Array.isArray(cells)) return inputOf(cells);
+  if (cells.length > MOST_CELLS) throw new Fault('length', 'input too long');
   let lines = '';
-  for (let at = 0; at < givens.length; at++) {
-    const place = own(givens, at),
+  for (let at = 0; at < cells.length; at++) {
+    const place = own(cells, at),
           [row, column] =
               Array.isArray(place) && place.length === 2 ? [own(place, 0), own(place, 1)] : [];
     if (!Number.isInteger(row) || !Number.isInteger(column)) {
       throw new TypeError(
-          'givens must be pairs [row, column] that count from 1, a file of givens, or \'any\''
+          'published must be pairs [row, column] that count from 1, or a file of givens'
       );
     }
     lines += `given ${row} ${column}\n`;
   }
-  return lines;
+  return inputOf(lines);
 }
+
+// Whether any given of a certificate is accepted.
+const isAnyGiven = (options) => own(options, 'anyGiven') === true;
 
 // Whether the file of a call is a .non text, as the option says or its contents do. A background
 // goes with a picture alone.
@@ -223,6 +227,36 @@ export function readAssessment(text) {
   };
 }
 
+const LOOK =
+    /^([rc]) (\d+) (\d+) (\d+)((?: \d+=[.a-o])*)( stands)?((?: given(?: \d+=[.a-o]+)+)?)$/;
+
+// Cells of a line: words such as 3=ab, each a place along it and letters.
+const cellsIn = (words) => words.split(' ').filter((word) => word.includes('=')).map((word) => {
+  const [place, letters] = word.split('=');
+  return {place: Number(place), letters};
+});
+
+/**
+ * The path of line logic as a value, of the text that a session prints for `path`: its looks, each
+ * with the premises that it needs, and how many cells stay open. Places along a line count from 1.
+ */
+export function readPath(text) {
+  const lines = text.split('\n'), last = /^open (\d+)$/.exec(lines.at(-2));
+  const found = lines.slice(0, -2).map((line) => LOOK.exec(line));
+  if (!last || lines.at(-1) !== '' || found.includes(null))
+    throw new TypeError(`this is no path: ${text.slice(0, 60)}`);
+  const looks = found.map(([, axis, number, round, excluded, falls, stands, premises]) => ({
+    axis,
+    number: Number(number),
+    round: Number(round),
+    excluded: Number(excluded),
+    falls: cellsIn(falls),
+    stands: stands !== undefined,
+    premises: cellsIn(premises)
+  }));
+  return {looks, open: Number(last[1])};
+}
+
 // Runs calls of a module. A trap leaves its memory as it was in mid-call, so nothing is called
 // after it.
 class Runs {
@@ -280,18 +314,17 @@ class Engine {
 
   /**
    * Checks a certificate of a picture, in any of its forms, and answers the program's text and
-   * status: 0 if it is accepted. `givens` are the cells that are published, [row, column] each, or
-   * a file with a line `given R C` for each; by default none. A certificate that names another
+   * status: 0 if it is accepted. `published` are the cells that are published, [row, column] each,
+   * or a file with a line `given R C` for each; by default none. A certificate that names another
    * given is refused with the text `certificate UnpublishedGiven at line N`. The answer has the
-   * givens that the certificate names, if its proof is right. 'any' accepts whatever it names, for
-   * a site that then publishes these cells.
+   * givens that the certificate names, if its proof is right. `anyGiven: true` accepts whatever it
+   * names, for a site that then publishes these cells.
    */
   check(picture, certificate, options = {}) {
-    const background = this.#background(options), published = publishedOf(own(options, 'givens'));
+    const background = this.#background(options), isAny = isAnyGiven(options);
     const cert = inputOf(certificate);  // what is checked here, and what the givens are read of
-    const files =
-        [inputOf(picture), cert, ...(published === null ? [] : [inputOf(published)]), background];
-    const call = published === null ? 'nonobench_check' : 'nonobench_check_published';
+    const files = [inputOf(picture), cert, ...(isAny ? [] : [publishedOf(options)]), background];
+    const call = isAny ? 'nonobench_check_any_given' : 'nonobench_check';
     const status = this.#lend(
         files, (lent) => this.#calls[call](this.#cell, ...lent.flatMap(({at, size}) => [at, size]))
     );
@@ -301,8 +334,8 @@ class Engine {
 
   /**
    * Assesses a puzzle, a picture or a .non text with a goal: what readAssessment gives of the
-   * engine's text. A background that is passed counts as named. `givens` are published in place of
-   * the picture's own, as for `check`, and with a `certificate` nothing is searched. `allowance`
+   * engine's text. A background that is passed counts as named. `published` cells are the givens,
+   * as for `check`, and with a `certificate` nothing is searched. `allowance`
    * bounds the splits of each part. Throws a Fault where one of the files is refused.
    */
   assess(puzzle, options = {}) {
@@ -313,14 +346,9 @@ class Engine {
         !(Number.isInteger(allowance) && allowance >= 0 && allowance <= MOST_SPLITS)) {
       throw new Fault('option', `allowance must be 0 to ${MOST_SPLITS}`);
     }
-    const [givens, certificate] =
-        ['givens', 'certificate'].map((name) => own(options, name) ?? null);
-    const texts =
-        [givens === null || givens === 'any' ? givens : publishedOf(givens), certificate].map(
-            (text) => text !== null && inputOf(text)
-        );
+    const published = publishedOf(options), certificate = own(options, 'certificate') ?? null;
     const status = this.#lend(
-        [file, background, ...texts.map((text) => text || NONE)],
+        [file, background, published, certificate === null ? NONE : inputOf(certificate)],
         ([picture, word, listed, cert]) => this.#calls.nonobench_assess(
             this.#cell,
             picture.at,
@@ -328,10 +356,10 @@ class Engine {
             non ? 1 : 0,
             word.at,
             word.size,
-            texts[0] ? 1 : 0,
+            1,
             listed.at,
             listed.size,
-            texts[1] ? 1 : 0,
+            certificate === null ? 0 : 1,
             cert.at,
             cert.size,
             allowance
@@ -342,15 +370,28 @@ class Engine {
   }
 
   /**
-   * Makes a certificate with lemmas of a picture: {ruling, certificate}. The ruling is 'unique'
-   * with the certificate, which has no givens, or 'ambiguous' or 'undecided' with null. Throws a
-   * Fault where the picture is refused.
+   * Makes a certificate of a picture whose givens are exactly the `published` cells: {ruling,
+   * certificate}. The ruling is 'unique' with the certificate, or 'ambiguous' or 'undecided' with
+   * null. A search that is `complete` has no bounds. `format` is 2, or 1 for a certificate with
+   * lemmas that is `nonolemma 1`. Throws a Fault where picture or givens are refused.
    */
   prove(picture, options = {}) {
+    const background = this.#background(options), format = own(options, 'format') ?? 2,
+          complete = own(options, 'complete') === true ? 1 : 0;
+    if (format !== 1 && format !== 2) throw new Fault('option', 'format must be 1 or 2');
     const status = this.#lend(
-        [inputOf(picture), this.#background(options)],
-        ([file, word]) =>
-            this.#calls.nonobench_prove(this.#cell, file.at, file.size, word.at, word.size)
+        [inputOf(picture), publishedOf(options), background],
+        ([file, listed, word]) => this.#calls.nonobench_prove(
+            this.#cell,
+            file.at,
+            file.size,
+            listed.at,
+            listed.size,
+            word.at,
+            word.size,
+            complete,
+            format
+        )
     );
     if (status !== DONE) this.#refuse(status);
     const text = this.#text(), certificate = text.startsWith('nono') ? text : null;
@@ -525,4 +566,4 @@ async function instanceOf(module) {
 }
 
 // What web/check.mjs takes over.
-export {backgroundOf, checkedOf, inputOf, instanceOf, own, publishedOf, refusalOf, Runs};
+export {backgroundOf, checkedOf, inputOf, instanceOf, isAnyGiven, publishedOf, refusalOf, Runs};

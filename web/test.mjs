@@ -11,7 +11,7 @@ import {setFlagsFromString} from 'node:v8';
 import {runInNewContext} from 'node:vm';
 import {faultBy, mustCheckForms, mustCheckPublished, pictureOf, refusedInTurn} from '../tests/cases.mjs';
 import {TRIED, long, waits} from '../tests/waits.mjs';
-import {Fault, hintOf, load, readAssessment} from './nonobench.mjs';
+import {Fault, hintOf, load, readAssessment, readPath} from './nonobench.mjs';
 
 const root = join(dirname(fileURLToPath(import.meta.url)), '..');
 const bytes = readFileSync(process.env.WASM ?? join(root, 'web', 'out', 'nonobench.wasm'));
@@ -109,7 +109,7 @@ test('what files, options and words are refused, and how it is said', async () =
         faultOf(() => engine.open(DIAGONAL, {background})), ['option', 'background must be R,G,B']
     );
     assert.deepEqual(
-        faultOf(() => engine.check(DIAGONAL, '', {background, givens: 'any'})),
+        faultOf(() => engine.check(DIAGONAL, '', {background, anyGiven: true})),
         ['option', 'background must be R,G,B']
     );
     assert.deepEqual(
@@ -236,8 +236,9 @@ test(
       const size = BigInt(DIAGONAL.length);
       const open = (at, length, word = [file, 0n], handle = cell + 8n) =>
           calls.nonobench_open(cell, at, length, 0, ...word, 1, handle);
-      const check = (...pairs) => calls.nonobench_check(cell, ...pairs.flat(), file, 0n);
-      const published = (...words) => calls.nonobench_check_published(cell, ...words.flat());
+      const check = (...pairs) => calls.nonobench_check_any_given(cell, ...pairs.flat(), file, 0n);
+      const published = (...words) => calls.nonobench_check(cell, ...words.flat());
+      const prove = (...words) => calls.nonobench_prove(cell, ...words.flat(), 0, 2);
       const assess = (...words) => assessPlainly(calls, cell, words.flat());
       assert.equal(open(file, size), 0);
       const past =
@@ -249,13 +250,14 @@ test(
         (...at) => calls.nonobench_say(cell, 1, ...at),
         (...at) => check(at, [file, size]),
         (...at) => check([file, size], at),
-        (...at) => calls.nonobench_check(cell, file, size, file, size, ...at),
+        (...at) => calls.nonobench_check_any_given(cell, file, size, file, size, ...at),
         (...at) => published(at, [file, size, file, 0n, file, 0n]),
         (...at) => published([file, size], at, [file, 0n, file, 0n]),
         (...at) => published([file, size, file, size], at, [file, 0n]),
         (...at) => published([file, size, file, size, file, 0n], at),
-        (...at) => calls.nonobench_prove(cell, ...at, file, 0n),
-        (...at) => calls.nonobench_prove(cell, file, size, ...at),
+        (...at) => prove(at, [file, 0n, file, 0n]),
+        (...at) => prove([file, size], at, [file, 0n]),
+        (...at) => prove([file, size, file, 0n], at),
         (...at) => assess(at, [file, 0n, file, 0n, file, 0n]),
         (...at) => assess([file, size], at, [file, 0n, file, 0n]),
         (...at) => assess([file, size, file, 0n], at, [file, 0n]),
@@ -313,31 +315,31 @@ test(
       assert.equal(open(BigInt(end()), 1n, 0, file, 0n, 1, cell + 8n), 6);
       assert.equal(handle(cell + 8n), 0);
       assert.equal(open(file, size, 0, BigInt(end()), 0n, 1, cell + 8n), 0);
-      assert.equal(calls.nonobench_check(cell, ...last(DIAGONAL), file, size, file, 0n), 1);
-      assert.equal(calls.nonobench_check(cell, file, size, ...last('nonocert 2\n'), file, 0n), 1);
-      assert.equal(calls.nonobench_check(cell, file, size, file, size, ...last('0,0,0')), 1);
       assert.equal(
-          calls.nonobench_check_published(cell, ...last(DIAGONAL), file, size, file, 0n, file, 0n),
-          1
+          calls.nonobench_check_any_given(cell, ...last(DIAGONAL), file, size, file, 0n), 1
       );
       assert.equal(
-          calls.nonobench_check_published(
-              cell, file, size, ...last('nonolemma 1\n'), file, 0n, file, 0n
-          ),
-          1
+          calls.nonobench_check_any_given(cell, file, size, ...last('nonocert 2\n'), file, 0n), 1
       );
       assert.equal(
-          calls.nonobench_check_published(
-              cell, file, size, file, size, ...last('given 1 1\n'), file, 0n
-          ),
-          1
+          calls.nonobench_check_any_given(cell, file, size, file, size, ...last('0,0,0')), 1
       );
       assert.equal(
-          calls.nonobench_check_published(cell, file, size, file, size, file, 0n, ...last('0,0,0')),
-          1
+          calls.nonobench_check(cell, ...last(DIAGONAL), file, size, file, 0n, file, 0n), 1
       );
-      assert.equal(calls.nonobench_prove(cell, ...last(DIAGONAL), file, 0n), 0);
-      assert.equal(calls.nonobench_prove(cell, file, size, ...last('0,0,0')), 0);
+      assert.equal(
+          calls.nonobench_check(cell, file, size, ...last('nonolemma 1\n'), file, 0n, file, 0n), 1
+      );
+      assert.equal(
+          calls.nonobench_check(cell, file, size, file, size, ...last('given 1 1\n'), file, 0n), 1
+      );
+      assert.equal(
+          calls.nonobench_check(cell, file, size, file, size, file, 0n, ...last('0,0,0')), 1
+      );
+      const prove = (...words) => calls.nonobench_prove(cell, ...words, 0, 2);
+      assert.equal(prove(...last(DIAGONAL), file, 0n, file, 0n), 0);
+      assert.equal(prove(file, size, ...last('given 1 1\n'), file, 0n), 0);
+      assert.equal(prove(file, size, file, 0n, ...last('0,0,0')), 0);
       const assess = (...words) => assessPlainly(calls, cell, words);
       assert.equal(assess(...last(DIAGONAL), file, 0n, file, 0n, file, 0n), 1);
       assert.equal(assess(file, size, ...last('0,0,0'), file, 0n, file, 0n), 1);
@@ -371,22 +373,24 @@ test(
       assert.equal(open(file, size, [0n, 0n], 0n), 6);
       assert.equal(open(file, size, [0n, 0n], cell + 8n), 0);
       assert.equal(calls.nonobench_say(cell, 1, 0n, 1n), 6);
-      assert.equal(calls.nonobench_check(cell, 0n, 1n, file, size, 0n, 0n), 6);
-      assert.equal(calls.nonobench_check(cell, file, size, 0n, 1n, 0n, 0n), 6);
-      assert.equal(calls.nonobench_check(cell, file, size, file, size, 0n, 1n), 6);
+      assert.equal(calls.nonobench_check_any_given(cell, 0n, 1n, file, size, 0n, 0n), 6);
+      assert.equal(calls.nonobench_check_any_given(cell, file, size, 0n, 1n, 0n, 0n), 6);
+      assert.equal(calls.nonobench_check_any_given(cell, file, size, file, size, 0n, 1n), 6);
       for (const nth of [0, 1, 2, 3]) {
         const files = [[file, size], [file, size], [0n, 0n], [0n, 0n]];
         files[nth] = [0n, 1n];
-        assert.equal(calls.nonobench_check_published(cell, ...files.flat()), 6);
+        assert.equal(calls.nonobench_check(cell, ...files.flat()), 6);
         assert.equal(assessPlainly(calls, cell, files.flat()), 6);
       }
-      assert.equal(calls.nonobench_prove(cell, 0n, 1n, 0n, 0n), 6);
-      assert.equal(calls.nonobench_prove(cell, file, size, 0n, 1n), 6);
-      assert.equal(calls.nonobench_prove(cell, file, size, 0n, 0n), 0);
-      assert.equal(
-          calls.nonobench_check_published(cell, file, size, file, size, 0n, 0n, 0n, 0n), 1
-      );
-      assert.equal(calls.nonobench_check(cell, file, size, file, size, 0n, 0n), 1);
+      const prove = (...words) => calls.nonobench_prove(cell, ...words, 0, 2);
+      assert.equal(prove(0n, 1n, 0n, 0n, 0n, 0n), 6);
+      assert.equal(prove(file, size, 0n, 1n, 0n, 0n), 6);
+      assert.equal(prove(file, size, 0n, 0n, 0n, 1n), 6);
+      assert.equal(prove(file, size, 0n, 0n, 0n, 0n), 0);
+      for (const format of [0, 3])
+        assert.equal(calls.nonobench_prove(cell, file, size, 0n, 0n, 0n, 0n, 0, format), 6);
+      assert.equal(calls.nonobench_check(cell, file, size, file, size, 0n, 0n, 0n, 0n), 1);
+      assert.equal(calls.nonobench_check_any_given(cell, file, size, file, size, 0n, 0n), 1);
       const low = () => new Uint8Array(calls.memory.buffer, 0, 8192).slice(), before = low();
       assert.equal(calls.nonobench_take(cell, 0n, 64n), 29n);
       assert.equal(calls.nonobench_version(0n, 64n), BigInt(VERSION.length));
@@ -508,14 +512,14 @@ const ASSESSED = [
   [PUZZLE, {}, 'ambiguous/.a/a./size 2 2/colours 2/givens 0/open 4/unfit'],
   [
     PUZZLE,
-    {givens: 'given 1 1', format: 'non'},
+    {published: 'given 1 1', format: 'non'},
     'unique/size 2 2/colours 2/givens 1/open 0/grade easy 1 4 2 0 0/fit'
   ],
   // Without a split nothing is found of the puzzle without that given.
   [DIAGONAL, {allowance: 0}, 'undecided/size 2 2/colours 2/givens 0/open 4/unfit'],
   [
     DIAGONAL,
-    {allowance: 0, givens: [[1, 1]]},
+    {allowance: 0, published: [[1, 1]]},
     'unique/size 2 2/colours 2/givens 1/open 0/grade easy 1 4 2 0 0/unknown given 1 1/fit'
   ],
 ];
@@ -524,7 +528,7 @@ test('puzzles are assessed as the cases say, and what is said is a value', async
   const engine = await fresh();
   for (const [puzzle, options, lines] of ASSESSED)
     assert.equal(engine.assess(puzzle, options).text, lines.replaceAll('/', '\n') + '\n', lines);
-  const {text: said, ...one} = engine.assess(DIAGONAL, {givens: [[1, 1], [2, 2]]});
+  const {text: said, ...one} = engine.assess(DIAGONAL, {published: [[1, 1], [2, 2]]});
   assert.deepEqual(one, {
     verdict: 'unique',
     other: null,
@@ -540,7 +544,7 @@ test('puzzles are assessed as the cases say, and what is said is a value', async
   });
   assert.deepEqual(engine.assess(DIAGONAL).other, ['.a', 'a.']);
   assert.equal(engine.assess(DIAGONAL).grade, null);
-  assert.deepEqual(engine.assess(DIAGONAL, {allowance: 0, givens: [[1, 1]]}).unknown, [1, 1]);
+  assert.deepEqual(engine.assess(DIAGONAL, {allowance: 0, published: [[1, 1]]}).unknown, [1, 1]);
   assert.deepEqual(engine.assess('P3 2 1 255 255 255 255 254 254 254\n').flaws, ['alike . a']);
   const [hard] = ['unique/size 3 4/colours 2/givens 0/open 8/grade unknown 2 10 4/fit/'].map(
       (lines) => readAssessment(lines.replaceAll('/', '\n'))
@@ -585,8 +589,8 @@ test(
       assert.deepEqual(
           refused(DIAGONAL, {background: 'white'}), ['option', 'background must be R,G,B']
       );
-      assert.deepEqual(refused(DIAGONAL, {givens: [[3, 1]]}), ['givens', 'givens Place at line 1']);
-      assert.deepEqual(refused(DIAGONAL, {givens: 'any'}), ['givens', 'givens BadLine at line 1']);
+      assert.deepEqual(refused(DIAGONAL, {published: [[3, 1]]}), ['givens', 'givens Place at line 1']);
+      assert.deepEqual(refused(DIAGONAL, {published: 'any'}), ['givens', 'givens BadLine at line 1']);
       assert.deepEqual(
           refused(DIAGONAL, {certificate: ''}), ['certificate', 'certificate NotCert at line 1']
       );
@@ -600,23 +604,23 @@ test(
         );
       assert.deepEqual(refused(new Uint8Array(16777217)), ['length', 'input too long']);
       assert.deepEqual(
-          refused(DIAGONAL, {givens: new Uint8Array(16777217)}), ['length', 'input too long']
+          refused(DIAGONAL, {published: new Uint8Array(16777217)}), ['length', 'input too long']
       );
-      assert.throws(() => engine.assess(DIAGONAL, {givens: [[1]]}), TypeError);
+      assert.throws(() => engine.assess(DIAGONAL, {published: [[1]]}), TypeError);
       assert.throws(() => engine.assess(null), TypeError);
       assert.equal(
-          engine.assess(DIAGONAL, Object.create({givens: [[1, 1]], allowance: 0})).verdict,
+          engine.assess(DIAGONAL, Object.create({published: [[1, 1]], allowance: 0})).verdict,
           'ambiguous'
       );
       assert.equal(
           engine
               .assess(
-                  DIAGONAL, {background: null, givens: null, certificate: null, allowance: null}
+                  DIAGONAL, {background: null, published: null, certificate: null, allowance: null}
               )
               .verdict,
           'ambiguous'
       );
-      assert.equal(engine.assess(DIAGONAL, {givens: []}).verdict, 'ambiguous');
+      assert.equal(engine.assess(DIAGONAL, {published: []}).verdict, 'ambiguous');
     }
 );
 
@@ -639,10 +643,12 @@ test(
       assert.equal(calls.nonobench_start(cell), 0);
       const open = (history = 1) =>
           calls.nonobench_open(cell, file, size, 0, file, 0n, history, cell + 8n);
-      const check = (word = 0n) => calls.nonobench_check(cell, file, size, file, size, file, word);
+      const check = (word = 0n) =>
+          calls.nonobench_check_any_given(cell, file, size, file, size, file, word);
       const published = (word = 0n) =>
-          calls.nonobench_check_published(cell, file, size, file, size, file, 0n, file, word);
-      const prove = (word = 0n) => calls.nonobench_prove(cell, file, size, file, word);
+          calls.nonobench_check(cell, file, size, file, size, file, 0n, file, word);
+      const prove = (word = 0n) =>
+          calls.nonobench_prove(cell, file, size, file, 0n, file, word, 0, 2);
       const short = (call) => {
         calls.nonobench_refuse(1);
         const status = call();
@@ -743,12 +749,13 @@ test('a certificate is accepted, and what is wrong is said', async () => {
   const picture = text('examples', 'given.ppm'), certificate = text('examples', 'given.ppm.cert');
   const givens = [[1, 1]];
   assert.deepEqual(
-      engine.check(picture, certificate, {givens}),
+      engine.check(picture, certificate, {published: givens}),
       {accepted: true, status: 0, text: 'certificate accepted, givens 1\n', givens}
   );
   const unpublished =
       {accepted: false, status: 1, text: 'certificate UnpublishedGiven at line 2', givens};
-  for (const options of [undefined, {}, {givens: []}, {givens: null}, {givens: [[1, 2]]}]) {
+  for (const options
+           of [undefined, {}, {published: []}, {published: null}, {published: [[1, 2]]}]) {
     assert.deepEqual(engine.check(picture, certificate, options), unpublished);
   }
   assert.deepEqual(
@@ -761,7 +768,7 @@ test('a certificate is accepted, and what is wrong is said', async () => {
   );
   const file = new TextEncoder().encode('given 2 2\ngiven 1 1\n');
   for (const one of [file, file.buffer, 'given 1 1'])
-    assert.deepEqual(engine.check(picture, certificate, {givens: one}).givens, givens);
+    assert.deepEqual(engine.check(picture, certificate, {published: one}).givens, givens);
   for (const [wrong, name] of [
            ['1,1', 'BadLine at line 1'],
            ['all', 'BadLine at line 1'],
@@ -769,21 +776,21 @@ test('a certificate is accepted, and what is wrong is said', async () => {
            [[[1, 1], [1, 1]], 'Repeated at line 2'],
            [[[-1, 1]], 'BadLine at line 1']]) {
     assert.deepEqual(
-        engine.check(picture, certificate, {givens: wrong}),
+        engine.check(picture, certificate, {published: wrong}),
         {accepted: false, status: 1, text: `givens ${name}`, givens: []}
     );
   }
   for (const long of[' '.repeat(16777217), Array(14401).fill([1, 1])])
     assert.deepEqual(
-        faultOf(() => engine.check(picture, certificate, {givens: long})),
+        faultOf(() => engine.check(picture, certificate, {published: long})),
         ['length', 'input too long']
     );
   assert.equal(
-      engine.check(picture, certificate, {givens: Array(14400).fill([1, 1])}).text,
+      engine.check(picture, certificate, {published: Array(14400).fill([1, 1])}).text,
       'givens Repeated at line 2'
   );  // as many as a picture of 120 by 120 has
   for (const wrong of [[1, 1], [[1]], [['1', '1']], [[1, 1.5]], 5, new Set([[1, 1]])]) {
-    assert.throws(() => engine.check(picture, certificate, {givens: wrong}), TypeError);
+    assert.throws(() => engine.check(picture, certificate, {published: wrong}), TypeError);
   }
   // By its background the first colour of this picture has a clue or none: where the left cell is
   // background, nothing tells the two pictures apart that the certificate is of.
@@ -798,15 +805,57 @@ test('a certificate is accepted, and what is wrong is said', async () => {
       {accepted: false, status: 1, text: 'certificate NotDone at line 3', givens: []}
   );
   const bench = engine.open(picture);
-  assert.equal(engine.check(picture, certificate, {givens}).accepted, true);
+  assert.equal(engine.check(picture, certificate, {published: givens}).accepted, true);
   assert.equal(bench.say('undo\n'), 'refused: UndoEmpty\n');
 });
 
 test('a certificate is accepted where its givens are among those that are published', async () => {
   const engine = await fresh();
   mustCheckPublished(
-      (picture, certificate, givens) => engine.check(picture, certificate, {givens})
+      (picture, certificate, options) => engine.check(picture, certificate, options)
   );
+});
+
+test('the path is read from its text', async () => {
+  const engine = await fresh(), bench = engine.open(DIAGONAL);
+  // By hand, as in tests/sessions/path.out.
+  const {looks, open} = readPath(bench.say('pin 1 1\npath\n').replace('ok\n', ''));
+  const look = {axis: 'c', number: 1, round: 1, excluded: 1, stands: true},
+        fallen = [{place: 2, letters: '.'}], given = [{place: 1, letters: 'a'}];
+  assert.deepEqual(looks, [
+    {...look, axis: 'r', falls: fallen, premises: given},
+    {...look, falls: fallen, premises: given},
+    {
+      ...look,
+      number: 2,
+      falls: [{place: 2, letters: 'a'}],
+      stands: false,
+      premises: [{place: 1, letters: '.'}]
+    }
+  ]);
+  assert.equal(open, 0);
+  for (const text of ['', 'open\n', 'open 1', 'r 1 1 1 given\nopen 0\n', 'open 0\nopen 0\n'])
+    assert.throws(() => readPath(text), TypeError);
+});
+
+test('a certificate is made with exactly the cells that are published', async () => {
+  const engine = await fresh();
+  for (const [format, complete] of [[1, false], [2, true], [undefined, undefined]]) {
+    for (const published of [[[1, 1]], 'given 1 1\n']) {
+      const {ruling, certificate} = engine.prove(DIAGONAL, {published, format, complete});
+      assert.equal(ruling, 'unique');
+      assert.deepEqual(certificate.match(/^given .*$/gm), ['given 1 1']);
+      assert.equal(engine.check(DIAGONAL, certificate, {published}).accepted, true);
+    }
+  }
+  for (const [options, ...wanted] of [
+           [{published: [[3, 1]]}, 'givens', 'givens Place at line 1'],
+           [{published: 'all'}, 'givens', 'givens BadLine at line 1'],
+           [{format: 3}, 'option', 'format must be 1 or 2'],
+           [{format: '1'}, 'option', 'format must be 1 or 2'],
+           [{background: 'red'}, 'option', 'background must be R,G,B']])
+    assert.deepEqual(faultOf(() => engine.prove(DIAGONAL, options)), wanted);
+  assert.throws(() => engine.prove(DIAGONAL, {published: [[1]]}), TypeError);
 });
 
 test(
@@ -829,7 +878,7 @@ test(
             assert.deepEqual(answer, accepted);
           else
             refused += 1;
-          assert.equal(engine.check(DIAGONAL, text, {givens: 'any'}).accepted, false, text);
+          assert.equal(engine.check(DIAGONAL, text, {anyGiven: true}).accepted, false, text);
         }
       }
       assert.ok(refused > certificate.length * 3, `${refused}`);
@@ -838,7 +887,7 @@ test(
 
 test('certificates of all forms are answered as the cases say', async () => {
   const engine = await fresh();
-  mustCheckForms((picture, certificate) => engine.check(picture, certificate, {givens: 'any'}));
+  mustCheckForms((picture, certificate) => engine.check(picture, certificate, {anyGiven: true}));
 });
 
 test(
@@ -849,13 +898,13 @@ test(
           new TextEncoder().encode('nonocert 2\ngiven 1 1\nline r 1\nline c 1\nline r 2\ndone\n');
       const shared = new Uint8Array(new SharedArrayBuffer(bytes.length));
       shared.set(bytes);
-      const plain = calls.nonobench_check_published;
-      calls.nonobench_check_published = (...words) => {
+      const plain = calls.nonobench_check;
+      calls.nonobench_check = (...words) => {
         const status = plain(...words);
         shared.fill(0x20);  // as another thread may
         return status;
       };
-      assert.deepEqual(engine.check(DIAGONAL, shared, {givens: [[1, 1]]}).givens, [[1, 1]]);
+      assert.deepEqual(engine.check(DIAGONAL, shared, {published: [[1, 1]]}).givens, [[1, 1]]);
     }
 );
 
@@ -874,16 +923,15 @@ test(
           return 0;
         }
       }
-      const odd = new Odd(new SharedArrayBuffer(bytes.length)),
-            plain = calls.nonobench_check_published;
+      const odd = new Odd(new SharedArrayBuffer(bytes.length)), plain = calls.nonobench_check;
       odd.set(bytes);
-      calls.nonobench_check_published = (...words) => {
+      calls.nonobench_check = (...words) => {
         const status = plain(...words);
         odd.fill(0x20);
         return status;
       };
       assert.deepEqual(
-          engine.check(DIAGONAL, odd, {givens: [[1, 1]]}),
+          engine.check(DIAGONAL, odd, {published: [[1, 1]]}),
           {accepted: true, status: 0, text: 'certificate accepted, givens 1\n', givens: [[1, 1]]}
       );
       odd.set(bytes);
@@ -905,9 +953,9 @@ test('an option is a property of the object itself', async () => {
   const engine = await fresh();
   const all = 'nonocert 2\ngiven 1 1\ngiven 1 2\ngiven 2 1\ngiven 2 2\ndone\n',
         refused = 'certificate UnpublishedGiven at line 2';
-  for (const options of [undefined, {}, null, Object.create({givens: 'any'})]) {
+  for (const options of [undefined, {}, null, Object.create({anyGiven: true})]) {
     for (const given of [all, all.replace('nonocert 2', 'nonolemma 1')]) {
-      const answer = polluted({givens: 'any'}, () => engine.check(DIAGONAL, given, options));
+      const answer = polluted({anyGiven: true}, () => engine.check(DIAGONAL, given, options));
       assert.deepEqual([answer.accepted, answer.text], [false, refused]);
     }
   }
@@ -930,7 +978,9 @@ test('an option is a property of the object itself', async () => {
                [[1, 1], [1, 2], [2, 1], , [2, 2]]]) {
     for (const put of [1, [1, 1], 'given 1 1\ngiven 1 2\ngiven 2 1\ngiven 2 2\n']) {
       assert.throws(
-          () => polluted({0: put, 1: put, 3: put}, () => engine.check(DIAGONAL, all, {givens})),
+          () => polluted(
+              {0: put, 1: put, 3: put}, () => engine.check(DIAGONAL, all, {published: givens})
+          ),
           TypeError
       );
     }
@@ -991,7 +1041,7 @@ test('10,000 benches are opened and closed, and not a block more is taken', asyn
     assert.equal(
         engine
             .check(DIAGONAL, 'nonocert 2\ngiven 1 1\nline r 1\nline c 1\nline r 2\ndone\n', {
-              givens: 'any'
+              anyGiven: true
             })
             .accepted,
         true
@@ -1078,14 +1128,14 @@ test(
             certificate = text('examples', 'given.ppm.cert'), givens = [[1, 1]];
       const lemmas = `nonolemma 1${certificate.slice(10)}`, unique = pictureOf('a./.b'),
             made = engine.prove(unique);
-      const assessed = engine.assess(picture, {givens});
+      const assessed = engine.assess(picture, {published: givens});
       const accepted =
           {accepted: true, status: 0, text: 'certificate accepted, givens 1\n', givens};
       const asked = [
-        [() => engine.check(picture, certificate, {givens}), accepted],
-        [() => engine.check(picture, lemmas, {givens: 'any'}), accepted],
-        [() => engine.assess(picture, {givens}), assessed],
-        [() => engine.assess(picture, {givens, certificate}), assessed],
+        [() => engine.check(picture, certificate, {published: givens}), accepted],
+        [() => engine.check(picture, lemmas, {anyGiven: true}), accepted],
+        [() => engine.assess(picture, {published: givens}), assessed],
+        [() => engine.assess(picture, {published: givens, certificate}), assessed],
         [() => engine.prove(unique), made],
         [() => engine.prove(DIAGONAL), {ruling: 'ambiguous', certificate: null}],
       ];
@@ -1115,7 +1165,7 @@ test('an error says what was refused, its name and its place', async () => {
             null,
             null
            ],
-           [() => engine.assess(DIAGONAL, {givens: [[1, 3]]}), 'givens', 'Place', null, 1],
+           [() => engine.assess(DIAGONAL, {published: [[1, 3]]}), 'givens', 'Place', null, 1],
            [
              () => engine.assess(DIAGONAL, {certificate: 'nonocert 1\nline r 3\n'}),
             'certificate',
@@ -1168,7 +1218,7 @@ test('any bytes are answered, and the module goes on', async () => {
         }
       }
       assert.equal(typeof engine.check(file, noise).text, 'string');
-      assert.equal(typeof engine.check(file, noise, {givens: noise}).text, 'string');
+      assert.equal(typeof engine.check(file, noise, {published: noise}).text, 'string');
     }
     assert.equal(typeof bench.say(noise), 'string');
   }

@@ -12,10 +12,11 @@ const beside = (name) => JSON.parse(readFileSync(new URL(name, import.meta.url),
 
 // Checks a certificate: prints what was accepted, or ends.
 async function check({files, givens, options: {background}}) {
-  const [picture, certificate] = files.map(readFile),
-                  published = givens === undefined ? 'any' : readFile(givens);
+  const [picture, certificate] = files.map(readFile);
+  const published = givens === undefined ? undefined : readFile(givens),
+        anyGiven = givens === undefined;
   const {accepted, status, text} =
-      (await load()).check(picture, certificate, {background, givens: published});
+      (await load()).check(picture, certificate, {background, published, anyGiven});
   const hint = hintOf(text, certificate);
   if (!accepted) throw ended(status, hint ? `${text}\nnonobench: ${hint}` : text);
   write(text);
@@ -37,17 +38,6 @@ function blockOf(engine, path, options) {
   }
 }
 
-// A certificate with lemmas in its older form: a step on each line. A tree has that.
-function singleSteps(certificate) {
-  if (!certificate.startsWith('nonolemma 2\n')) return certificate;
-  const lines = (line, word, steps) => steps.split(' '
-  ).map((step) => `${word} ${word === 'line' ? `${step[0]} ${step.slice(1)}` : step}`)
-                                           .join('\n');
-  return certificate.replace(
-                        'nonolemma 2', 'nonolemma 1'
-  ).replace(/^(line|use|drop) (.*)$/gm, lines);
-}
-
 const TASKS = {
   // The texts were printed by the native program when the package was made.
   help: async ({page}) => write(beside('help.json')[page]),
@@ -62,13 +52,13 @@ const TASKS = {
   check,
 
   async assess({files, givens, certificate, options: {format, background, allowance}}) {
-    const [cells, lines] =
+    const [published, lines] =
         [givens, certificate].map((path) => (path === undefined ? undefined : readFile(path)));
     const engine = await load();
     let worst = 0;
     for (const [at, path] of files.entries()) {
       const [block, status] =
-          blockOf(engine, path, {format, background, allowance, givens: cells, certificate: lines});
+          blockOf(engine, path, {format, background, allowance, published, certificate: lines});
       write(files.length > 1 ? `puzzle ${at + 1}\n${block}` : block);
       worst = Math.max(worst, status);
     }
@@ -77,14 +67,11 @@ const TASKS = {
   },
 
   async prove({files, givens, complete, options: {background, format}}) {
-    if (givens !== undefined || complete)
-      throw ended(2, 'prove takes --givens and --complete in the native program alone');
-    const {ruling, certificate} = (await load()).prove(readFile(files[0]), {background});
-    write(
-        certificate === null ? `${ruling}\n` :
-            format === '1' ? singleSteps(certificate) :
-                             certificate
-    );
+    const [picture, published] =
+        [files[0], givens].map((path) => (path === undefined ? undefined : readFile(path)));
+    const {ruling, certificate} =
+        (await load()).prove(picture, {background, published, complete, format: Number(format)});
+    write(certificate ?? `${ruling}\n`);
     if (certificate === null) throw new Ending(1, '');  // the word says why
   },
 

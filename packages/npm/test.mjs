@@ -32,13 +32,7 @@ function ownFolder(t) {
 // status and what it prints or says.
 function done(args) {
   const {status, stdout, stderr} = spawnSync(native, args, {input: '', encoding: 'utf8', cwd: '/'});
-  return {
-    status,
-    wrote: /^Usage: nonobench prove/m.test(stdout) ?
-        stdout.replace(/^ +--(givens|complete) .*\n/gm, '') :
-        stdout,
-    said: stderr
-  };
+  return {status, wrote: stdout, said: stderr};
 }
 
 // What the package's program would do.
@@ -144,11 +138,15 @@ test('arguments are taken and refused as by the native program', {skip: waits('0
   }
 });
 
-test('help names the options alone that the program takes', async (t) => {
-  const options = help.prove.match(/--[a-z]+/g);
-  assert.deepEqual(options, ['--background', '--format', '--help']);
-  for (const args of [['--givens', example('diagonal.ppm')], ['--complete']]) {
-    assert.equal((await started(t, ['prove', ...args, example('diagonal.ppm')]).ended).status, 2);
+test('a certificate is made as the native program makes it, with givens too', async (t) => {
+  const [picture, givens] = ['given.ppm', 'given.ppm.givens'].map(example);
+  for (const args
+           of [[picture],
+               ['--givens', givens, picture],
+               ['--format', '1', '--complete', '--givens', givens, picture],
+               ['--givens', picture, picture]]) {
+    const {status, wrote, said} = await started(t, ['prove', ...args]).ended;
+    assert.deepEqual({status, wrote, said}, done(['prove', ...args]), args.join(' '));
   }
 });
 
@@ -328,8 +326,8 @@ test('a worker answers as an engine does', async (t) => {
   t.after(() => worker.close());
   for (const ask
            of [(it) => it.check(DIAGONAL, GIVEN),
-              (it) => it.check(DIAGONAL, GIVEN, {givens: 'any'}),
-              (it) => it.assess(new TextEncoder().encode(DIAGONAL), {givens: [[1, 1]]}),
+              (it) => it.check(DIAGONAL, GIVEN, {anyGiven: true}),
+              (it) => it.assess(new TextEncoder().encode(DIAGONAL), {published: [[1, 1]]}),
               (it) => it.prove('P3 1 1 1 0 0 0'),
               (it) => it.clues(DIAGONAL, {background: '0,0,0'}),
               (it) => it.version]) {

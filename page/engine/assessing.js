@@ -21,10 +21,10 @@ export function plainOf({rows, columns, maxval, colours, picture}) {
 export async function assessed(engine, doc) {
   const {text, letters} = plainOf(doc);
   const isNamed = doc.isNamed || doc.colours[0].some((sample) => sample !== doc.maxval);
-  const givens = [...doc.givens].map(
+  const published = [...doc.givens].map(
       (index) => [Math.floor(index / doc.columns) + 1, (index % doc.columns) + 1]
   );
-  const options = {background: isNamed ? doc.colours[0].join(',') : null, givens, format: 'ppm'};
+  const options = {background: isNamed ? doc.colours[0].join(',') : null, published, format: 'ppm'};
   const found = await engine.call('assess', {puzzle: text, options});
   const own = (text) => Array.from(text, (letter) => letters[LETTERS.indexOf(letter)]);
   const flaws = found.flaws.map(

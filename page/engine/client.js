@@ -106,11 +106,11 @@ export class Client {
   }
 
   /**
-   * Checks a certificate of a P3 picture; `givens` are the cells that the puzzle gives, [row,
+   * Checks a certificate of a P3 picture; `published` are the cells that the puzzle gives, [row,
    * column] from 1.
    */
-  check(picture, certificate, {background, givens}) {
-    return this.call('check', {picture, certificate, background, givens});
+  check(picture, certificate, {background, published}) {
+    return this.call('check', {picture, certificate, background, published});
   }
 
   end(text = 'the worker was ended') {

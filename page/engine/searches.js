@@ -129,31 +129,25 @@ export class Searches {
     return verdict;
   }
 
-  /** A certificate: its text, or null. What its search finds is told as the verdict too. */
-  async certify(seconds = this.hooks.seconds()) {
-    const {version} = this;
-    return this.job(phrase('engine.searchingCertificate'), seconds, async (copy) => {
-      const [answer] = await copy.say('certify');
-      if (answer.kind === 'refused') throw new Error(answer.name);
-      this.tellVerdict(
-          version, answer.kind === 'text' ? {kind: 'verdict', word: 'unique'} : await copy.verdict()
-      );
-      return answer.text ?? null;
-    }, true);
-  }
-
   /**
-   * A certificate with lemmas, which has no givens: its text, or null. It tells the verdict too,
-   * but not another picture.
+   * A certificate with exactly the picture's givens: its text, or null. What its search finds is
+   * told as the verdict too.
    */
   async prove(seconds = this.hooks.seconds()) {
     const {version} = this;
     return this.job(phrase('engine.searchingCertificate'), seconds, async (copy, run) => {
       const [{text}] = await copy.say('write ppm');
-      const {certificate} = await this.within(
-          run, run.engine.call('prove', {picture: text, background: run.state.colours[0].join(',')})
+      const {colours, columns, givens} = run.state;
+      const {certificate} = await this.within(run, run.engine.call('prove', {
+        picture: text,
+        background: colours[0].join(','),
+        published:
+            [...givens].map((index) => [Math.floor(index / columns) + 1, (index % columns) + 1]),
+        complete: true
+      }));
+      this.tellVerdict(
+          version, certificate ? {kind: 'verdict', word: 'unique'} : await copy.verdict()
       );
-      if (certificate) this.tellVerdict(version, {kind: 'verdict', word: 'unique'});
       return certificate;
     }, true);
   }

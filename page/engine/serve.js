@@ -16,7 +16,7 @@ export const grading = (engine, {rows, columns}) => (cells, givens) => {
   const places =
       [...givens].map((index) => [Math.floor(index / columns) + 1, (index % columns) + 1]);
   const {open, grade} =
-      engine.assess(puzzle, {background: '0,0,0', givens: places, allowance: 0, format: 'ppm'});
+      engine.assess(puzzle, {background: '0,0,0', published: places, allowance: 0, format: 'ppm'});
   return {...grade, open, word: open ? null : grade?.word};
 };
 
@@ -44,11 +44,11 @@ export function serve(scope, load) {
       return true;
     },
     say: ({lines}) => opened.say(lines),
-    check({picture, certificate, background, givens}) {
-      const answer = engine.check(picture, certificate, {background, givens});
+    check({picture, certificate, background, published}) {
+      const answer = engine.check(picture, certificate, {background, published});
       return {...answer, hint: hintOf(answer.text, certificate)};
     },
-    prove: ({picture, background}) => engine.prove(picture, {background}),
+    prove: ({picture, ...options}) => engine.prove(picture, options),
     repair: (fields, told) => repair(onBoard(fields), {
       found: (found) => told({found}),
       nearer: (nearer) => told({nearer}),

@@ -40,10 +40,10 @@ function inWords(text) {
 // whether it proves the puzzle.
 async function checkedCertificate(certificate, doc, engine) {
   try {
-    const givens =
+    const published =
         [...doc.givens].map((place) => [rowOf(doc, place) + 1, columnOf(doc, place) + 1]);
     const {accepted, text, hint} = await engine.check(
-        plainOf(doc).text, certificate, {background: doc.colours[0].join(','), givens}
+        plainOf(doc).text, certificate, {background: doc.colours[0].join(','), published}
     );
     if (accepted)
       return {

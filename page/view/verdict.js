@@ -282,14 +282,8 @@ function showOther(other) {
   sheet.redraw();
 }
 
-// Whether a certificate with lemmas may do better than a tree, or than none: it has no givens, and
-// line logic alone needs neither.
-const mayProve = (state) => state && state.open > 0 && !state.givens.size &&
-    state.verdict.word !== 'ambiguous' && [null, 'time'].includes(verdictView.ended);
-
 /**
- * A certificate of the present picture as a text, the shorter of two that are made, or null; what
- * is found is told as the verdict.
+ * A certificate of the present picture as a text, or null; what is found is told as the verdict.
  */
 export async function certificateText() {
   if (isWord('ambiguous')) {
@@ -297,11 +291,7 @@ export async function certificateText() {
     return null;
   }
   verdictView.ended = null;
-  let text = await searches.certify();
-  if (mayProve(bench.state)) {
-    const lemmas = await searches.prove();
-    if (lemmas && !(text?.length <= lemmas.length)) text = lemmas;
-  }
+  const text = await searches.prove();
   const why = {
     time: phrase('view.noCertificateFoundWithin', {secondsChosen: secondsChosen()}),
     stopped: phrase('view.searchCertificateStopped'),

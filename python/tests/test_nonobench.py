@@ -286,11 +286,41 @@ class Answers(unittest.TestCase):
         self.assertEqual(nonobench.prove(tile, (0, 0, 0)).ruling, Ruling.UNIQUE)
         with self.assertRaisesRegex(PictureError, "^ppm NotP3 at byte 0$"):
             nonobench.prove(b"P4")
-        with self.assertRaises(ValueError):
-            nonobench.prove(tile, (1, 2))
+        for wrong in ({"background": (1, 2)}, {"format": 3}, {"published": ANY_GIVEN}):
+            with self.assertRaises(ValueError):
+                nonobench.prove(tile, **wrong)
         for published in ((), b" " * 16777217):
             with self.assertRaises(LengthError):
                 nonobench.check(tile, b"" if published else b" " * 16777217, published=published)
+
+    def test_path(self):
+        """By hand, as in tests/sessions/path.out: the diagonal with its first cell given."""
+        looks = nonobench.path(DIAGONAL, published=[(1, 1)]).looks
+        self.assertEqual(
+            looks,
+            (
+                ("r", 1, 1, 1, ((2, "."),), True, ((1, "a"),)),
+                ("c", 1, 1, 1, ((2, "."),), True, ((1, "a"),)),
+                ("c", 2, 1, 1, ((2, "a"),), False, ((1, "."),)),
+            ),
+        )
+        self.assertEqual(nonobench.path(DIAGONAL), nonobench.SolvingPath((), 4))
+        with self.assertRaises(TypeError):
+            nonobench.path(DIAGONAL, published=b"given 1 1\n")
+        with self.assertRaises(nonobench.NonobenchError):
+            nonobench.path(DIAGONAL, published=[(3, 1)])
+
+    def test_prove_with_published_cells(self):
+        """The diagonal has one solution with its first cell given. The certificate names just
+        that."""
+        for published in ([(1, 1)], b"given 1 1\n"):
+            for how in ({}, {"format": 1}, {"complete": True}):
+                proved = nonobench.prove(DIAGONAL, published=published, **how)
+                self.assertIs(proved.ruling, Ruling.UNIQUE)
+                result = nonobench.check(DIAGONAL, proved.certificate, published=published)
+                self.assertEqual(result.givens, ((1, 1),))
+        with self.assertRaisesRegex(GivensError, "^givens Place at line 2$"):
+            nonobench.prove(DIAGONAL, published=[(1, 1), (1, 3)])
 
     def test_as_many_givens_as_the_largest_picture_has_cells(self):
         """More of them are not looked at: no right certificate names more, and a wrong one is

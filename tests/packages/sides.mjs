@@ -49,17 +49,18 @@ export class Program {
 }
 
 // What an engine answers, as the program would.
-function answerOf(engine, {call, file, lines, certificate, givens = 'any', options}) {
+function answerOf(engine, {call, file, lines, certificate, givens, options}) {
   const answered = (out) => ({out, said: '', status: 0});
   const refused = (text, status) => ({out: '', said: `nonobench: ${text}\n`, status});
   try {
     if (call === 'clues') return answered(engine.clues(file, options));
     if (call === 'check') {
-      const {accepted, text, status} = engine.check(file, certificate, {...options, givens});
+      const asked = {...options, published: givens, anyGiven: givens === undefined};
+      const {accepted, text, status} = engine.check(file, certificate, asked);
       return accepted ? answered(text) : refused(text, status);
     }
     if (call === 'prove') {
-      const {ruling, certificate: made} = engine.prove(file, options);
+      const {ruling, certificate: made} = engine.prove(file, {...options, published: givens});
       return made === null ? {...answered(`${ruling}\n`), status: 1} : answered(made);
     }
     const bench = engine.open(file, options);

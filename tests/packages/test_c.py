@@ -50,11 +50,13 @@ def test_program(archive, tmp_path_factory):
     return program
 
 
+@pytest.mark.since('0.8.0')
 @pytest.mark.compiler
 def test_c(test_program):
     passes([test_program, CASES])
 
 
+@pytest.mark.since('0.8.0')
 @pytest.mark.compiler
 @pytest.mark.parametrize('kind', ['a', 'so'])
 def test_checker(library, kind, tmp_path):
@@ -71,6 +73,7 @@ def test_checker(library, kind, tmp_path):
     passes([tmp_path / 'check_test', CASES])
 
 
+@pytest.mark.since('0.8.0')
 @pytest.mark.all
 @pytest.mark.emulator
 @pytest.mark.parametrize(

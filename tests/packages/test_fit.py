@@ -140,6 +140,7 @@ def test_python(library, host):
             assert said is None or tuple(lines_of(said)) == case.lines, case.name
 
 
+@pytest.mark.since('0.8.0')
 def test_any_given(library):
     """A certificate's givens are those that are published, whichever they are; and an error of the
     certificate is told as its own."""

@@ -62,16 +62,19 @@ def test_what_makes_it_narrow(request, kit):
     )
 
 
+@pytest.mark.since('0.8.0')
 def test_in_node(request, module):
     node_tests(request, ROOT / 'web' / 'test.mjs', {'WASM': str(module)})
 
 
+@pytest.mark.since('0.8.0')
 def test_checker_in_node(request, module):
     node_tests(
         request, ROOT / 'web' / 'check_test.mjs', {'WASM': str(module), 'CHECK': str(module.parent)}
     )
 
 
+@pytest.mark.since('0.8.0')
 @pytest.mark.all
 def test_badge_in_a_browser(module, tmp_path):
     """examples/badge.html on a server: of its three puzzles the last names a given that is not
@@ -138,6 +141,7 @@ def test_rates_beside_those_of_the_library(module, library, tmp_path, monkeypatc
     pytest.fail(f'checks, verdicts and certificates: {most}')
 
 
+@pytest.mark.since('0.8.0')
 @pytest.mark.all
 def test_beside_the_program(kept, module):
     needs('node')

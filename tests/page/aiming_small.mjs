@@ -47,7 +47,7 @@ const placeOf = (index) => [Math.floor(index / COLUMNS) + 1, (index % COLUMNS) +
 // it leaves none.
 function said(cells, givens = []) {
   const {open, grade} = module.assess(
-      textOf(cells), {background: BACKGROUND, givens: givens.map(placeOf), allowance: 0}
+      textOf(cells), {background: BACKGROUND, published: givens.map(placeOf), allowance: 0}
   );
   return {...grade, open, word: open ? null : grade.word};
 }

@@ -93,7 +93,7 @@ function written(folder, {name, text, givens, certificate}) {
 test('the module', {skip}, async () => {
   const module = await engine();
   for (const {name, text, background, givens, certificate, answer, refused} of cases) {
-    const options = {background, givens, certificate};
+    const options = {background, published: givens, certificate};
     if (refused)
       assert.throws(() => module.assess(text, options), {text: refused}, name);
     else

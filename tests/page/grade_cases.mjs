@@ -29,7 +29,7 @@ function toldOf(module, words) {
           [...picture.join('')].map((letter) => COLOURS[letter]).join('\n')}\n`;
   const places = givens.split(' ').filter(Boolean).map((word) => word.split(',').map(Number));
   const said =
-      module.assess(text, {givens: places, certificate: certificate?.replaceAll('\\n', '\n')});
+      module.assess(text, {published: places, certificate: certificate?.replaceAll('\\n', '\n')});
   return said.grade ? gradeText(said) : `no grade: ${said.verdict}`;
 }
 

@@ -246,7 +246,7 @@ export async function exportsAndPrint({browser, url, folder}) {
   await act(page, 'certificate');
   assert.match(
       (await downloaded(page, own, '.cert')).content.toString(),
-      /^nonocert 2\ngiven 1 3\ngiven 1 5\n/
+      /^nono(?:cert|lemma) 2\ngiven 1 3\ngiven 1 5\n/
   );
   await menu(page, 'export-site');
   await downloaded(page, own, '-site.zip');

@@ -57,6 +57,8 @@ function searchesOf(texts, seconds = 60) {
   searches.state = stateOf(['ab', 'ca']);
   return {searches, log, seen};
 }
+// The picture of these searches as it is written.
+const PPM = 'P3\n2 2\n255\n0 0 0\n255 0 0\n0 0 255\n0 0 0\n';
 const pause = (ms) => new Promise((go) => setTimeout(go, ms));
 const until = async (holds) => {
   while (!holds()) await pause(5);
@@ -74,9 +76,11 @@ test('a verdict has no allowance: the time alone ends it', async () => {
 test(
     'the worker that was through with one search serves the next on the same picture',
     async () => {
-      const {searches, log} = searchesOf(['ok\nunique\n', 'nonocert 1\nline r 1\ndone\n']);
+      const certificate = 'nonocert 1\nline r 1\ndone\n';
+      const {searches, log} =
+          searchesOf(['ok\nunique\n', PPM, {ok: {ruling: 'unique', certificate}}]);
       await searches.judge();
-      assert.equal(await searches.certify(), 'nonocert 1\nline r 1\ndone\n');
+      assert.equal(await searches.prove(), certificate);
       assert.equal(log.filter((line) => line === 'open').length, 1);
     }
 );
@@ -87,11 +91,9 @@ test('Stop, a stroke and the end of the time end the worker at once', async () =
     [(searches) => searches.strokeBegun(), 'stroke'],
     [() => {}, 'time']
   ];
-  for (const [how, why, search] of ways.flatMap(
-           (way) => [[...way, 'certify'], [...way, 'prove']]
-       )) {
+  for (const [how, why] of ways) {
     const {searches, log, seen} = searchesOf([], why === 'time' ? 0.05 : 60);
-    const found = searches[search]();
+    const found = searches.prove();
     await pause(20);
     how(searches);
     assert.equal(await found, null);
@@ -101,34 +103,32 @@ test('Stop, a stroke and the end of the time end the worker at once', async () =
   }
 });
 
-test('what a certificate finds is told as the verdict', async () => {
-  const {searches, seen} = searchesOf(['ambiguous\n', 'ok\nambiguous\nba\nac\n']);
-  assert.equal(await searches.certify(), null);
-  assert.deepEqual(seen.judged.map((verdict) => verdict.word), ['ambiguous']);
-  const unique = searchesOf(['nonocert 1\ndone\n']);
-  await unique.searches.certify();
-  assert.deepEqual(unique.seen.judged.map((verdict) => verdict.word), ['unique']);
-});
-
 test(
-    'a certificate with lemmas is made of the picture as it is written, and tells the verdict',
+    'a certificate is made of the picture as it is written, with its givens, and tells the verdict',
     async () => {
-      const ppm = 'P3\n2 2\n255\n0 0 0\n255 0 0\n0 0 255\n0 0 0\n',
-            certificate = 'nonolemma 2\ndone\n';
-      const {searches, log, seen} = searchesOf([ppm, {ok: {ruling: 'unique', certificate}}]);
+      const certificate = 'nonolemma 2\ndone\n', pinned = 'ok\nok\n';
+      const {searches, log, seen} =
+          searchesOf([pinned, PPM, {ok: {ruling: 'unique', certificate}}]);
+      searches.state = stateOf(['ab', 'ca'], [1, 2]);
       assert.equal(await searches.prove(), certificate);
       assert.deepEqual(log, [
         'start',
         'open',
+        'pin 1 2; pin 2 1',
         'write ppm',
-        `prove ${JSON.stringify({picture: ppm, background: '255,255,255'})}`
+        `prove ${JSON.stringify({
+          picture: PPM,
+          background: '255,255,255',
+          published: [[1, 2], [2, 1]],
+          complete: true
+        })}`
       ]);
       assert.deepEqual(seen.judged.map((verdict) => verdict.word), ['unique']);
-      for (const ruling of ['ambiguous', 'undecided']) {
-        const without = searchesOf([ppm, {ok: {ruling, certificate: null}}]);
-        assert.equal(await without.searches.prove(), null);
-        assert.deepEqual(without.seen.judged, []);
-      }
+      const other = searchesOf(
+          [PPM, {ok: {ruling: 'ambiguous', certificate: null}}, 'ok\nambiguous\nba\nac\n']
+      );
+      assert.equal(await other.searches.prove(), null);
+      assert.deepEqual(other.seen.judged.map((verdict) => verdict.word), ['ambiguous']);
     }
 );
 
@@ -190,7 +190,7 @@ const SAID = {
   fit: false
 };
 const ASKED =
-    'assess {"puzzle":"P3\\n2 2\\n255\\n0 0 0\\n255 0 0\\n0 0 255\\n0 0 0\\n","options":{"background":null,"givens":[],"format":"ppm"}}';
+    'assess {"puzzle":"P3\\n2 2\\n255\\n0 0 0\\n255 0 0\\n0 0 255\\n0 0 0\\n","options":{"background":null,"published":[],"format":"ppm"}}';
 
 test(
     'what is said of a picture without a guess and without givens is a moment of the worker',
@@ -220,7 +220,7 @@ test('else it is a job; colours are those of the document, wherever they appear'
   assert.deepEqual(other, ['bc', 'b.']);
   assert.equal(log.includes('open'), true);
   assert.ok(
-      log.at(-1).endsWith('"options":{"background":"9,9,9","givens":[[2,2]],"format":"ppm"}}'),
+      log.at(-1).endsWith('"options":{"background":"9,9,9","published":[[2,2]],"format":"ppm"}}'),
       log.at(-1)
   );
 });

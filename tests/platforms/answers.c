@@ -62,7 +62,7 @@ static void run_case(char *picture, char *said) {
   status[1] =
       nonobench_verdict(picture, size, some.background, (int32_t)chance(20), &ruling, &text),
   tell(said);
-  status[2] = chance(2) ? nonobench_prove_picture(picture, size, some.background, &found, &text)
+  status[2] = chance(2) ? nonobench_prove_picture(picture, size, &some, false, 2, &found, &text)
                         : nonobench_certify(picture, size, some.background, &found, &text);
   tell(said);
   char *certificate = found.certificate

@@ -56,7 +56,7 @@ static uint32_t call(int which, char *said) {
       status = nonobench_certify(ALONE, sizeof ALONE - 1, NULL, &found, &text);
       break;
     case 5:
-      status = nonobench_prove_picture(ALONE, sizeof ALONE - 1, NULL, &found, &text);
+      status = nonobench_prove_picture(ALONE, sizeof ALONE - 1, NULL, false, 2, &found, &text);
       break;
   }
   if (found.certificate && found.certificate_size < ROOM) strcpy(said, found.certificate);

@@ -37,8 +37,9 @@ __attribute__((noinline)) static void make_calls(void) {
   holds = nonobench_clues(PICTURE, sizeof PICTURE - 1, NULL, NULL) == NONOBENCH_DONE;
   holds = holds &&
           nonobench_verdict(PICTURE, sizeof PICTURE - 1, NULL, 9, &ruling, NULL) == NONOBENCH_DONE;
-  holds = holds && nonobench_prove_picture(PICTURE, sizeof PICTURE - 1, NULL, &found, NULL) ==
-                       NONOBENCH_DONE;
+  holds =
+      holds && nonobench_prove_picture(PICTURE, sizeof PICTURE - 1, NULL, false, 2, &found, NULL) ==
+                   NONOBENCH_DONE;
   if (holds && found.certificate)
     holds = nonobench_check_pair(
                 PICTURE, sizeof PICTURE - 1, found.certificate, found.certificate_size, NULL, NULL

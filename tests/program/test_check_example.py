@@ -96,6 +96,7 @@ def damaged(certificate, chance):
     return b'\n'.join(lines)
 
 
+@pytest.mark.since('0.8.0')
 @pytest.mark.parametrize(
     'count', (500, pytest.param(10_000, marks=pytest.mark.all)), ids=('some', 'many')
 )

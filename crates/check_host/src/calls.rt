@@ -23,10 +23,10 @@ pub extern "C" fn nonocheck_version(out: &mut [u8])
     put(VERSION.as_bytes(), out);
 }
 
-/// Checks a certificate of a picture. The text is what the program writes for it, or why it is refused. The background is white
-/// where it has no samples.
+/// Checks a certificate of a picture, which may have any givens. The text is what the program writes for it, or why it is refused.
+/// The background is white where it has no samples.
 #[unsafe(no_mangle)]
-pub extern "C" fn nonocheck_check(
+pub extern "C" fn nonocheck_check_any_given(
     alloc: Global,
     file: &[u8],
     cert: &[u8],
@@ -46,10 +46,10 @@ pub extern "C" fn nonocheck_check(
     say(alloc, answer, out)
 }
 
-/// Checks a certificate of a picture whose givens are published, by the text of the file of givens. The text is what the program
-/// writes for it, or why it is refused.
+/// Checks a certificate of a picture by the text of the file of the givens that are published, which may be empty. The text is what
+/// the program writes for it, or why it is refused.
 #[unsafe(no_mangle)]
-pub extern "C" fn nonocheck_check_published(
+pub extern "C" fn nonocheck_check(
     alloc: Global,
     file: &[u8],
     cert: &[u8],

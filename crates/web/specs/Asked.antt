@@ -1,10 +1,12 @@
 -- The arguments of the calls, as values.
-use Rattle.std.specs.Prelude.{ℕ, ◌==◌, ◌||◌, ◌&&◌, Bool, List, [], ◌∷◌, Option, None, Some, is_some, nat_lt}
+use Rattle.std.specs.Prelude.{ℕ, ◌==◌, ◌||◌, ◌&&◌, Bool, true, false, List, [], ◌∷◌, Option, None, Some, is_some}
+use Rattle.std.specs.Prelude.{nat_lt}
 use Rattle.std.specs.Prelude.{if◌then◌else◌}
 use Rattle.std.specs.Option.{option_map}
 use Rattle.picture.specs.declared.rgb.Rgb.{Rgb}
 use Rattle.program_options.specs.declared.assessing.AssessOptions.{AssessOptions}
 use Rattle.program_options.specs.declared.options.Options.{Options}
+use Rattle.program_options.specs.declared.options.ProveOptions.{ProveOptions}
 use Rattle.program_options.specs.Background.{background_of}
 
 -- the background that a word names: `Some None` if it is empty, None if it is no colour
@@ -24,6 +26,25 @@ options_with non history (Some background) =
 
 abbrev pub options_asked : Bool → List ℕ → ℕ → Option Options
 options_asked non word history = options_with non history (background_asked word)
+
+-- ---- certificates that are made
+
+-- whether a form of certificates with lemmas has a single step on each line: that of `nonolemma 1` has, that of
+-- `nonolemma 2` has not, and there is no other
+abbrev pub single_asked : ℕ → Option Bool
+single_asked format = if format == 1 then Some true else (if format == 2 then Some false else None)
+
+abbrev pub prove_options : Option Rgb → Bool → Bool → ProveOptions
+prove_options background single complete = record { background = background; single = single; complete = complete }
+
+-- the options with a background and a form, where both are lawful
+abbrev pub prove_options_with : Bool → Option Bool → Option (Option Rgb) → Option ProveOptions
+prove_options_with complete form None = None
+prove_options_with complete form (Some background) =
+    option_map (λ single. prove_options background single complete) form
+
+abbrev pub prove_options_asked : List ℕ → Bool → ℕ → Option ProveOptions
+prove_options_asked word complete format = prove_options_with complete (single_asked format) (background_asked word)
 
 -- ---- assessments
 

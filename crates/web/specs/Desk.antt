@@ -1,5 +1,5 @@
 -- The benches that are open, and what each call does to them.
-use Rattle.std.specs.Prelude.{◌≡◌, ◌⊎◌, ℕ, ◌+◌, ◌==◌, Bool, false, List, [], ◌∷◌, ◌++◌, Option, None, Some}
+use Rattle.std.specs.Prelude.{◌≡◌, ◌⊎◌, ℕ, ◌+◌, ◌==◌, Bool, List, [], ◌∷◌, ◌++◌, Option, None, Some}
 use Rattle.std.specs.Prelude.{Result, Ok, Err, position, remove, slice_index_or, slice_set}
 use Rattle.picture.specs.declared.rgb.Rgb.{Rgb}
 use Rattle.live_audit.specs.Bench.{Seen}
@@ -120,15 +120,12 @@ ChecksPublished file background givens cert text status =
     ((status ≡ 0) × (IsPublishedCheckOf file background givens cert (Ok text) × IsOnlyPublished file background givens))
     ⊎ IsRefused (λ fault. IsPublishedCheckOf file background givens cert (Err fault)) text status
 
--- how a host has a certificate made: in the newest form, within bounds
-abbrev pub bounded_options : Option Rgb → ProveOptions
-bounded_options background = record { background = background; single = false; complete = false }
-
--- What is made of a picture: a certificate, or the word that there is another picture, or that neither was found.
-abbrev pub Proves : List ℕ → Option Rgb → List ℕ → ℕ → Type 0
-Proves file background text status =
-    ((status ≡ 0) × ((proves : Bool) × IsProveOf file None (bounded_options background) (Ok (text, proves))))
-    ⊎ IsRefused (λ fault. IsProveOf file None (bounded_options background) (Err fault)) text status
+-- What is made of a picture and of a text of givens, as the program makes it: a certificate with exactly these givens,
+-- or the word that there is another picture, or that neither was found.
+abbrev pub Proves : List ℕ → List ℕ → ProveOptions → List ℕ → ℕ → Type 0
+Proves file givens options text status =
+    ((status ≡ 0) × ((proves : Bool) × IsProveOf file (Some givens) options (Ok (text, proves))))
+    ⊎ IsRefused (λ fault. IsProveOf file (Some givens) options (Err fault)) text status
 
 -- ---- assessments
 

@@ -2,9 +2,9 @@
 
 ghost use Rattle.std.specs.Prelude.{◌≡◌, IfSome, None, Some, if◌then◌else◌, option_map};
 ghost use Rattle.program_options.specs.Options.{IsLawful};
-ghost use Rattle.web.specs.Asked.{allowance_asked, assess_options_asked, background_asked, options_asked, text_if};
+ghost use Rattle.web.specs.Asked.{allowance_asked, assess_options_asked, background_asked, options_asked, prove_options_asked, single_asked, text_if};
 
-use answers::{AssessOptions, Options, background_in};
+use answers::{AssessOptions, Options, ProveOptions, background_in};
 use edits::MAX_DEPTH;
 use picture::Rgb;
 
@@ -35,6 +35,30 @@ pub fn options_of(non: bool, word: &[u8], history: u32) -> Option<Options>
         background,
         history: history as u16,
     })
+}
+
+/// The options of a certificate that is made. None where `word` is no colour, or `format` no form with lemmas.
+pub fn prove_options_of(word: &[u8], complete: bool, format: u32) -> Option<ProveOptions>
+    ensures { result ≡ prove_options_asked word.now complete format }
+{
+    let background = background_of(word)?;
+    let single = single_of(format)?;
+    Some(ProveOptions {
+        background,
+        single,
+        complete,
+    })
+}
+
+// Whether a certificate in the form `nonolemma 1` or `nonolemma 2` has a single step on each line.
+fn single_of(format: u32) -> Option<bool>
+    ensures { result ≡ single_asked format }
+{
+    match format {
+        1 => Some(true),
+        2 => Some(false),
+        _ => None,
+    }
 }
 
 /// The options of an assessment. None where `word` is no colour, or names one for a .non text.

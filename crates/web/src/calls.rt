@@ -3,11 +3,11 @@
 ghost use Rattle.std.specs.Prelude.{◌≡◌, ◌⊎◌, ◌++◌, None, [], drop, length, take, IfSome, IsSome};
 ghost use denote.RawPtr.{null_ptr};
 ghost use Rattle.program_options.specs.declared.version.TheConstants.{VERSION};
-ghost use Rattle.web.specs.Asked.{assess_options_asked, background_asked, options_asked, text_if};
+ghost use Rattle.web.specs.Asked.{assess_options_asked, background_asked, options_asked, prove_options_asked, text_if};
 ghost use Rattle.web.specs.Desk.{AssessesBy, Checks, ChecksPublished, Closes, IsKept, IsUnasked, Opens, Proves, Says};
 ghost use Rattle.web.specs.Held.{IsEmpty};
 
-use crate::asked::{assess_options_of, background_of, options_of, text_if};
+use crate::asked::{assess_options_of, background_of, options_of, prove_options_of, text_if};
 use crate::cell::DeskCell;
 use crate::desk::Desk;
 use crate::held::Held;
@@ -115,9 +115,9 @@ pub extern "C" fn nonobench_close(held: &mut Held, handle: u32) -> u32
     replace_with(held, handle, close_in)
 }
 
-/// Checks a certificate of a picture. What the program writes for it, or an error, is the text.
+/// Checks a certificate of a picture, which may have any givens. What the program writes for it, or an error, is the text.
 #[unsafe(no_mangle)]
-pub extern "C" fn nonobench_check(
+pub extern "C" fn nonobench_check_any_given(
     held: &mut Held,
     file: &[u8],
     cert: &[u8],
@@ -136,10 +136,10 @@ pub extern "C" fn nonobench_check(
     replace_with(held, (file, cert, background), check_in)
 }
 
-/// Checks a certificate of a picture whose givens are published, by the text of the file of givens. What the program writes for
-/// it, or an error, is the text.
+/// Checks a certificate of a picture by the text of the file of the givens that are published, which may be empty. What the program
+/// writes for it, or an error, is the text.
 #[unsafe(no_mangle)]
-pub extern "C" fn nonobench_check_published(
+pub extern "C" fn nonobench_check(
     held: &mut Held,
     file: &[u8],
     cert: &[u8],
@@ -159,20 +159,28 @@ pub extern "C" fn nonobench_check_published(
     replace_with(held, (file, cert, givens, background), check_published_in)
 }
 
-/// Makes a certificate with lemmas of a picture. What the program writes for it, or an error, is the text.
+/// Makes a certificate of a picture with the givens of a text, which may be empty: one with lemmas in the form `nonolemma 1` or
+/// `nonolemma 2`, or a tree. A search that is `complete` has no bounds. What the program writes for it, or an error, is the text.
 #[unsafe(no_mangle)]
-pub extern "C" fn nonobench_prove(held: &mut Held, file: &[u8], background: &[u8]) -> u32
-    ensures proves { IfSome (background_asked background.now) (λ colour.
-        Proves file.now colour held.new.desk.text.items result) }
-    ensures refused { background_asked background.now ≡ None
+pub extern "C" fn nonobench_prove(
+    held: &mut Held,
+    file: &[u8],
+    givens: &[u8],
+    background: &[u8],
+    complete: bool,
+    format: u32,
+) -> u32
+    ensures proves { IfSome (prove_options_asked background.now complete format) (λ options.
+        Proves file.now givens.now options held.new.desk.text.items result) }
+    ensures refused { prove_options_asked background.now complete format ≡ None
         → IsUnasked held.old.desk held.new.desk result }
     ensures kept { IsKept held.old.desk held.new.desk }
 {
-    let Some(background) = background_of(background) else {
+    let Some(options) = prove_options_of(background, complete, format) else {
         replace_with(held, (), forget_in);
         return OPTIONS;
     };
-    replace_with(held, (file, background), prove_in)
+    replace_with(held, (file, givens, options), prove_in)
 }
 
 /// Assesses a puzzle: a P3 text, or a .non text with a goal. The texts of its givens and of its certificate count where they are

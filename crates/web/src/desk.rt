@@ -89,7 +89,8 @@ impl Desk {
         }
     }
 
-    /// Checks a certificate of a picture. What the program writes for it, or why it refuses it, is the text.
+    /// Checks a certificate of a picture, which may have any givens. What the program writes for it, or why it refuses it, is the
+    /// text.
     pub fn check(&mut self, file: &[u8], cert: &[u8], background: Option<Rgb>) -> u32
         ensures checks { Checks file.now background cert.now self.new.text.items result }
         ensures kept { IsKept self.old self.new }
@@ -121,19 +122,14 @@ impl Desk {
         }
     }
 
-    /// Makes a certificate of a picture within the program's bounds. What the program writes for it, or why it refuses it, is the
+    /// Makes a certificate of a picture with the givens of a text. What the program writes for it, or why it refuses it, is the
     /// text.
-    pub fn prove(&mut self, file: &[u8], background: Option<Rgb>) -> u32
-        ensures proves { Proves file.now background self.new.text.items result }
+    pub fn prove(&mut self, file: &[u8], givens: &[u8], options: ProveOptions) -> u32
+        ensures proves { Proves file.now givens.now options self.new.text.items result }
         ensures kept { IsKept self.old self.new }
     {
         self.text.clear();
-        let options = ProveOptions {
-            background,
-            single: false,
-            complete: false,
-        };
-        match run_prove(self.alloc, file, None, options, &mut self.text) {
+        match run_prove(self.alloc, file, Some(givens), options, &mut self.text) {
             Ok(()) => DONE,
             Err(ProgramFault::NoCertificate) => DONE,
             Err(fault) => self.refuse(&fault),

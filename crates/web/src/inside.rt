@@ -5,7 +5,7 @@ ghost use Rattle.program_options.specs.Options.{IsLawful};
 ghost use Rattle.web.specs.Desk.{AssessesBy, Checks, ChecksPublished, Closes, IsKept, Opens, Proves, Says};
 
 use crate::held::Held;
-use answers::{AssessOptions, Options};
+use answers::{AssessOptions, Options, ProveOptions};
 use picture::Rgb;
 use std::mem::replace;
 
@@ -38,7 +38,7 @@ pub fn close_in(held: Held, handle: u32) -> (Held, u32)
     (Held::new(desk), status)
 }
 
-/// Checks a certificate. `asked` is the file, the certificate and the background.
+/// Checks a certificate, which may have any givens. `asked` is the file, the certificate and the background.
 pub fn check_in(held: Held, asked: (&[u8], &[u8], Option<Rgb>)) -> (Held, u32)
     ensures checks { Checks asked.entry.0.now asked.entry.2 asked.entry.1.now
         result.0.desk.text.items result.1 }
@@ -60,13 +60,14 @@ pub fn check_published_in(held: Held, asked: (&[u8], &[u8], &[u8], Option<Rgb>))
     (Held::new(desk), status)
 }
 
-/// Makes a certificate with lemmas. `asked` is the file and the background.
-pub fn prove_in(held: Held, asked: (&[u8], Option<Rgb>)) -> (Held, u32)
-    ensures proves { Proves asked.entry.0.now asked.entry.1 result.0.desk.text.items result.1 }
+/// Makes a certificate. `asked` is the file, the givens and the options.
+pub fn prove_in(held: Held, asked: (&[u8], &[u8], ProveOptions)) -> (Held, u32)
+    ensures proves { Proves asked.entry.0.now asked.entry.1.now asked.entry.2
+        result.0.desk.text.items result.1 }
     ensures kept { IsKept held.desk result.0.desk }
 {
     let mut desk = held.into_box();
-    let status = desk.prove(asked.0, asked.1);
+    let status = desk.prove(asked.0, asked.1, asked.2);
     (Held::new(desk), status)
 }
 

@@ -17,17 +17,19 @@ from ._answers import (
     Proved,
     Puzzle,
     Result,
+    SolvingPath,
     Verdict,
     assessment_of,
     clues_of,
     error_of,
     givens_of,
+    path_of,
     proved_of,
     result_of,
     verdict_of,
 )
 from ._library import DONE, MEMORY
-from ._serve import ASSESS, CHECK, PROVE, PUBLISHED, SESSION, SESSION_OF_NON, answer
+from ._serve import ASSESS, CHECK, CHECK_ANY, PROVE, SESSION, SESSION_OF_NON, answer
 
 Bytes = Union[bytes, bytearray, memoryview]
 Colour = tuple[int, int, int]
@@ -87,19 +89,33 @@ class Questions:
             bytes_of(certificate),
             _file_of(published),
         )
-        (text,) = self._ask(
-            CHECK if givens is None else PUBLISHED, picture, background, certificate, givens or b""
-        )
+        kind = CHECK_ANY if givens is None else CHECK
+        (text,) = self._ask(kind, picture, background, certificate, givens or b"")
         return result_of(text.decode("ascii"), certificate)
 
-    def prove(self, picture: Bytes, background: Optional[Colour] = None) -> Proved:
-        """A certificate with lemmas of a picture, without givens, or why there is none.
+    def prove(
+        self,
+        picture: Bytes,
+        background: Optional[Colour] = None,
+        published: Published = (),
+        complete: bool = False,
+        format: int = 2,
+    ) -> Proved:
+        """A certificate of a picture, or why there is none. Its givens are exactly the published
+        cells, which are as in `check`, but not ANY_GIVEN.
 
         It is often shorter than that of `certify`, and sometimes there when that takes too long.
-        The search has bounds, and if it reaches one, the ruling is UNDECIDED. Until then it may
-        take minutes; `Worker` limits the time.
+        Unless it is `complete`, the search has bounds, and if it reaches one, the ruling is
+        UNDECIDED. It may take minutes, or without bounds any time; `Worker` limits the time.
+        `format` is 2, or 1 for a certificate with lemmas that is `nonolemma 1`.
         """
-        return proved_of(self._ask(PROVE, bytes_of(picture), background, b"")[0])
+        givens = _file_of(published)
+        if givens is None:
+            raise ValueError("ANY_GIVEN goes with a certificate")
+        if format not in (1, 2):
+            raise ValueError("format must be 1 or 2")
+        how = b"%d %d" % (bool(complete), format)
+        return proved_of(self._ask(PROVE, bytes_of(picture), background, how, givens)[0])
 
     def assess(
         self,
@@ -153,21 +169,23 @@ class Questions:
         """
         return verdict_of(self._say(picture, background, _allow(allowance) + b"verdict\n")[-1])
 
+    def path(
+        self,
+        picture: Bytes,
+        background: Optional[Colour] = None,
+        published: Iterable[tuple[int, int]] = (),
+    ) -> SolvingPath:
+        """The path of line logic on a picture, some of whose cells are published: each look at a
+        line that excluded something, with what it needs."""
+        if isinstance(published, (AnyGiven, bytes, bytearray, memoryview)):
+            raise TypeError("published must be pairs of row and column")
+        pins = (_file_of(published) or b"").replace(b"given", b"pin")
+        return path_of(self._say(picture, background, pins + b"path\n")[-1].decode("ascii"))
+
     def certify(self, picture: Bytes, background: Optional[Colour] = None) -> Optional[bytes]:
         """A certificate of a picture, without givens, or None if another picture has its clues. It
         may take very long."""
         text = self._say(picture, background, b"certify\n")[-1]
-        return None if text == b"ambiguous\n" else text
-
-    def certify_with(
-        self,
-        picture: Bytes,
-        background: Optional[Colour] = None,
-        givens: Iterable[tuple[int, int]] = (),
-    ) -> Optional[bytes]:
-        """A certificate of a picture with some cells given, as `certify` makes it."""
-        pins = b"".join(b"pin %d %d\n" % given for given in givens)
-        text = self._say(picture, background, pins + b"certify\n")[-1]
         return None if text == b"ambiguous\n" else text
 
     def audit(
@@ -257,7 +275,7 @@ assess, check, clues, verdict, certify, audit = (
     _here.certify,
     _here.audit,
 )
-prove, puzzles_of = _here.prove, _here.puzzles_of
+path, prove, puzzles_of = _here.path, _here.prove, _here.puzzles_of
 
 
 def picture_of(columns: int, rows: int, triples: Iterable[Colour], maxval: int = 255) -> bytes:

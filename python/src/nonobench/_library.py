@@ -57,9 +57,9 @@ def _kinds() -> dict[str, tuple[Any, list[Any]]]:
         "say": (number, [cell, number, *bytes_of]),
         "take": (ctypes.c_size_t, [cell, *bytes_of]),
         "close": (number, [cell, number]),
-        "check": (number, [cell, *bytes_of, *bytes_of, *bytes_of]),
-        "check_published": (number, [cell, *bytes_of, *bytes_of, *bytes_of, *bytes_of]),
-        "prove": (number, [cell, *bytes_of, *bytes_of]),
+        "check": (number, [cell, *bytes_of, *bytes_of, *bytes_of, *bytes_of]),
+        "check_any_given": (number, [cell, *bytes_of, *bytes_of, *bytes_of]),
+        "prove": (number, [cell, *bytes_of, *bytes_of, *bytes_of, ctypes.c_bool, number]),
         "assess": (
             number,
             [
@@ -115,6 +115,11 @@ def _text(put: Callable[..., int], *words: object) -> bytes:
     return ctypes.string_at(buffer, size)
 
 
+def _lent(*files: bytes) -> list[object]:
+    """Files as a call takes them: the bytes of each, and how many they are."""
+    return [word for file in files for word in (file, len(file))]
+
+
 class Desk:
     """A desk, ended where its `with` ends. One thread uses it at a time."""
 
@@ -134,23 +139,24 @@ class Desk:
         _calls.nonobench_end(self._cell)
 
     def check(
-        self, picture: bytes, certificate: bytes, background: bytes, givens: bytes | None
+        self, picture: bytes, certificate: bytes, background: bytes, published: bytes | None
     ) -> int:
-        """Checks a certificate of a picture, with the file of givens that are published if there is
-        one, and answers the status."""
-        call = _calls.nonobench_check if givens is None else _calls.nonobench_check_published
+        """Checks a certificate of a picture by the file of the givens that are published, or (None)
+        one with any givens, and answers the status."""
+        call = _calls.nonobench_check_any_given if published is None else _calls.nonobench_check
         files = (
             (picture, certificate, background)
-            if givens is None
-            else (picture, certificate, givens, background)
+            if published is None
+            else (picture, certificate, published, background)
         )
-        return int(call(self._at, *(word for file in files for word in (file, len(file)))))
+        return int(call(self._at, *_lent(*files)))
 
-    def prove(self, picture: bytes, background: bytes) -> int:
-        """Makes a certificate with lemmas of a picture, and answers the status."""
-        return int(
-            _calls.nonobench_prove(self._at, picture, len(picture), background, len(background))
-        )
+    def prove(
+        self, picture: bytes, background: bytes, published: bytes, complete: bool, format: int
+    ) -> int:
+        """Makes a certificate of a picture with the givens of a file, and answers the status."""
+        files = _lent(picture, published, background)
+        return int(_calls.nonobench_prove(self._at, *files, complete, format))
 
     def assess(
         self,

@@ -21,10 +21,10 @@ TYPE_CHECKING = False
 if TYPE_CHECKING:
     from typing import BinaryIO, Callable
 
-# What is asked: whether a certificate of a picture is accepted, with any givens or with those that
-# are published; what a bench on a picture answers to lines; for a certificate with lemmas; for an
-# assessment, which a certificate may help; or what a bench on a .non text answers.
-CHECK, PUBLISHED, SESSION, PROVE, ASSESS, SESSION_OF_NON = 1, 2, 3, 4, 5, 6
+# What is asked: whether a certificate of a picture is accepted by the givens that are published, or
+# with any; what a bench on a picture answers to lines; for a certificate; for an assessment, which
+# a certificate may help; or what a bench on a .non text answers.
+CHECK, CHECK_ANY, SESSION, PROVE, ASSESS, SESSION_OF_NON = 1, 2, 3, 4, 5, 6
 
 NO_MEMORY = 9  # the status of a process whose memory has ended
 STREAM = 0  # of a process that answers: questions come there, and answers go
@@ -37,9 +37,10 @@ LAST = (b"refused: ", b"ambiguous\n", b"undecided ")
 def answer(
     kind: int, picture: bytes, background: bytes, rest: bytes, givens: bytes
 ) -> tuple[int, list[bytes]]:
-    """The status, and the texts that were said. `rest` is the certificate, or the lines. For an
-    assessment it is a line of numbers (1 for a .non text, the allowance, 1 where there is a
-    certificate), and then the certificate.
+    """The status, and the texts that were said. `rest` is the certificate, or the lines. To make a
+    certificate it is two numbers, 1 for a complete search and the form; for an assessment a line of
+    numbers (1 for a .non text, the allowance, 1 where there is a certificate), and then the
+    certificate.
     """
     with Desk() as desk:
         return answer_on(desk, kind, picture, background, rest, givens)
@@ -49,10 +50,11 @@ def answer_on(
     desk: Desk, kind: int, picture: bytes, background: bytes, rest: bytes, givens: bytes
 ) -> tuple[int, list[bytes]]:
     """The same, on a desk that is there."""
-    if kind in (CHECK, PUBLISHED):
-        status = desk.check(picture, rest, background, givens if kind == PUBLISHED else None)
+    if kind in (CHECK, CHECK_ANY):
+        status = desk.check(picture, rest, background, givens if kind == CHECK else None)
     elif kind == PROVE:
-        status = desk.prove(picture, background)
+        complete, form = map(int, rest.split())
+        status = desk.prove(picture, background, givens, bool(complete), form)
     elif kind == ASSESS:
         words, _, certificate = rest.partition(b"\n")
         non, allowance, is_by = map(int, words.split())

@@ -6,8 +6,8 @@ import {load} from 'nonobench';
 
 const [picture, certificate, ...places] = process.argv.slice(2);
 const engine = await load();
-const givens = places.map((place) => place.split(',').map(Number));
+const published = places.map((place) => place.split(',').map(Number));
 const {accepted, text} =
-    engine.check(await readFile(picture), await readFile(certificate), {givens});
+    engine.check(await readFile(picture), await readFile(certificate), {published});
 console.log(accepted ? text.trimEnd() : `refused: ${text.trimEnd()}`);
 process.exitCode = accepted ? 0 : 1;

@@ -24,7 +24,7 @@ export async function tried(picture: Uint8Array, certificate: string, published:
   const engine = await load();
   const other: Engine = await load(new Uint8Array(0).buffer);
   try {
-    const checked: Checked = engine.check(picture, certificate, { givens: published });
+    const checked: Checked = engine.check(picture, certificate, { published });
     const { accepted, status, text }: { accepted: boolean; status: number; text: string } = checked;
     return accepted ? checked : `${status} ${text} ${other.version} ${answer(engine, picture)} ${proved(other, picture, {}, {})}`;
   } catch (fault) {

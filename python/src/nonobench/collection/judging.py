@@ -17,7 +17,7 @@ from .._answers import (
     givens_of,
     refused_flaws,
 )
-from .._calls import Colour, Questions, colour_word
+from .._calls import Questions, colour_word
 from .._hints import hint_of
 from .._library import DONE, Desk
 from . import reading, webpbn
@@ -213,10 +213,10 @@ def _painted(picture: Picture, options: Options) -> Picture:
 
 
 def files_of(question: Question, options: Options) -> dict[str, bytes]:
-    """A certificate of a puzzle with one solution, and the picture that it is of. None is there
-    where a search reached its bounds."""
+    """A certificate of a puzzle with one solution, and the picture that it is of."""
     picture = _painted(reading.picture_of(question, options), options)
-    certificate = _made(picture.text, picture.background, picture.givens)
+    proved = _library.prove(picture.text, picture.background, picture.givens, complete=True)
+    certificate = proved.certificate
     if certificate is None:
         return {}
     files = {".cert": certificate} if options.is_certifying else {}
@@ -228,11 +228,3 @@ def files_of(question: Question, options: Options) -> dict[str, bytes]:
     if picture.givens:
         files[".ppm.givens"] = picture.givens
     return files
-
-
-def _made(text: bytes, background: Optional[Colour], givens: bytes) -> Optional[bytes]:
-    """A certificate: with lemmas, which make it short, or a tree where none such is found."""
-    if not givens:
-        found = _library.prove(text, background).certificate
-        return found or _library.certify(text, background)
-    return _library.certify_with(text, background, cells_of(givens))
