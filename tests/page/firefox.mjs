@@ -153,7 +153,9 @@ const steps = {
     assert.match((await downloaded('.xml')).toString(), /<puzzleset>/);
     assert.match((await downloaded('.ppm')).toString(), /^P3\n/);
     assert.match((await downloaded('.non')).toString(), /^title "Key"\nwidth 10\nheight 5\nrows\n/);
-    assert.match((await downloaded('.cert')).toString(), /^nono(?:cert|lemma) 2\ngiven 1 3\ngiven 1 5\n/);
+    assert.match(
+        (await downloaded('.cert')).toString(), /^nono(?:cert|lemma) 2\ngiven 1 3\ngiven 1 5\n/
+    );
     const png = await downloaded('-cells.png');
     assert.deepEqual([png.readUInt32BE(16), png.readUInt32BE(20)], [10, 5]);
   },
