@@ -173,5 +173,29 @@ export function hintOf(text: string, certificate: Input): string;
 /** What an assessment says, of its text as the program or a session prints it. Throws a TypeError for another text. */
 export function readAssessment(text: string): Assessment;
 
+/** A cell of a line: its place along it, counted from 1, and the letters of the colours that are left there. */
+export interface LineCell {
+  place: number;
+  letters: string;
+}
+
+/** A look at a line that excluded something (docs/SESSION.md, Line logic). */
+export interface Look {
+  /** Of a row or of a column, whose number counts from 1. */
+  axis: 'r' | 'c';
+  number: number;
+  round: number;
+  excluded: number;
+  /** The cells that fell, each with the letter that is left. */
+  falls: LineCell[];
+  /** All blocks of the line stood before. */
+  stands: boolean;
+  /** What the look needs. None can be left out. */
+  premises: LineCell[];
+}
+
+/** The path of line logic, of its text as a session prints it for `path`. Throws a TypeError for another text. */
+export function readPath(text: string): { looks: Look[]; open: number };
+
 /** Makes an engine of nonobench.wasm: its bytes, or what WebAssembly.compile makes of them. */
 export function load(module: Uint8Array | ArrayBuffer | WebAssembly.Module): Promise<Engine>;

@@ -224,6 +224,36 @@ export function readAssessment(text) {
   };
 }
 
+const LOOK =
+    /^([rc]) (\d+) (\d+) (\d+)((?: \d+=[.a-o])*)( stands)?((?: given(?: \d+=[.a-o]+)+)?)$/;
+
+// Cells of a line: words such as 3=ab, each a place along it and letters.
+const cellsIn = (words) => words.split(' ').filter((word) => word.includes('=')).map((word) => {
+  const [place, letters] = word.split('=');
+  return {place: Number(place), letters};
+});
+
+/**
+ * The path of line logic as a value, of the text that a session prints for `path`: its looks, each
+ * with the premises that it needs, and how many cells stay open. Places along a line count from 1.
+ */
+export function readPath(text) {
+  const lines = text.split('\n'), last = /^open (\d+)$/.exec(lines.at(-2));
+  const found = lines.slice(0, -2).map((line) => LOOK.exec(line));
+  if (!last || lines.at(-1) !== '' || found.includes(null))
+    throw new TypeError(`this is no path: ${text.slice(0, 60)}`);
+  const looks = found.map(([, axis, number, round, excluded, falls, stands, premises]) => ({
+    axis,
+    number: Number(number),
+    round: Number(round),
+    excluded: Number(excluded),
+    falls: cellsIn(falls),
+    stands: stands !== undefined,
+    premises: cellsIn(premises)
+  }));
+  return {looks, open: Number(last[1])};
+}
+
 // Runs calls of a module. A trap leaves its memory as it was in mid-call, so nothing is called
 // after it.
 class Runs {

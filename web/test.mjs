@@ -11,7 +11,7 @@ import {setFlagsFromString} from 'node:v8';
 import {runInNewContext} from 'node:vm';
 import {faultBy, mustCheckForms, mustCheckPublished, pictureOf, refusedInTurn} from '../tests/cases.mjs';
 import {TRIED, long, waits} from '../tests/waits.mjs';
-import {Fault, hintOf, load, readAssessment} from './nonobench.mjs';
+import {Fault, hintOf, load, readAssessment, readPath} from './nonobench.mjs';
 
 const root = join(dirname(fileURLToPath(import.meta.url)), '..');
 const bytes = readFileSync(process.env.WASM ?? join(root, 'web', 'out', 'nonobench.wasm'));
@@ -817,6 +817,28 @@ test('a certificate is accepted where its givens are among those that are publis
   mustCheckPublished(
       (picture, certificate, options) => engine.check(picture, certificate, options)
   );
+});
+
+test('the path is read from its text', async () => {
+  const engine = await fresh(), bench = engine.open(DIAGONAL);
+  // By hand, as in tests/sessions/path.out.
+  const {looks, open} = readPath(bench.say('pin 1 1\npath\n').replace('ok\n', ''));
+  const look = {axis: 'c', number: 1, round: 1, excluded: 1, stands: true},
+        fallen = [{place: 2, letters: '.'}], given = [{place: 1, letters: 'a'}];
+  assert.deepEqual(looks, [
+    {...look, axis: 'r', falls: fallen, premises: given},
+    {...look, falls: fallen, premises: given},
+    {
+      ...look,
+      number: 2,
+      falls: [{place: 2, letters: 'a'}],
+      stands: false,
+      premises: [{place: 1, letters: '.'}]
+    }
+  ]);
+  assert.equal(open, 0);
+  for (const text of ['', 'open\n', 'open 1', 'r 1 1 1 given\nopen 0\n', 'open 0\nopen 0\n'])
+    assert.throws(() => readPath(text), TypeError);
 });
 
 test('a certificate is made with exactly the cells that are published', async () => {

@@ -23,7 +23,8 @@ const UNDECIDED = pattern('undecided N');
 const CLUE = pattern('([rc]) N: (0|[0-9]+[a-o](?: [0-9]+[a-o])*)');
 const BLOCK = /^([1-9][0-9]*)([a-o])$/;
 const REASON = pattern('by ([rc]) N( given(?: [1-9][0-9]*=[.a-o]+)+)?');
-const LOOK = pattern('([rc]) N N N((?: [1-9][0-9]*=[.a-o])*)');
+const LOOK =
+    pattern('([rc]) N N N((?: [1-9][0-9]*=[.a-o])*)( stands)?( given(?: [1-9][0-9]*=[.a-o]+)+)?');
 const CERT_LINE =
     /^(?:line [rc] \d{1,3}|dead [rc] \d{1,3}|split \d{1,3} \d{1,3}|given \d{1,3} \d{1,3}|done)$/;
 
@@ -181,21 +182,26 @@ function readWhy(reader) {
   if (reader.peek() === 'possible' || reader.peek() === 'given')
     return {kind: 'why', word: reader.line()};
   const [text, axis, at, given] = reader.match(REASON, 'a reason');
-  const premises = (given ?? '').split(' ').slice(2).map((word) => {
+  return {kind: 'why', word: 'by', axis, at: Number(at), premises: premisesOf(given), text};
+}
+
+// The premises behind the word `given`, each with its place along the line and the letters left.
+function premisesOf(given) {
+  return (given ?? '').split(' ').slice(2).map((word) => {
     const [place, letters] = word.split('=');
     return {at: Number(place), letters};
   });
-  return {kind: 'why', word: 'by', axis, at: Number(at), premises, text};
 }
 
-// The looks of line logic that exclude something, each with the line (rows first), the round, and
-// the cells that fell; and how many cells stay open.
+// The looks of line logic that exclude something, each with the line (rows first), the round, the
+// cells that fell, whether all blocks of the line stood, and the premises; and how many cells stay
+// open.
 function readPath(reader, size) {
   must(size, 'a path was asked for while the size is not known');
   const {rows, columns} = size;
   const looks = [];
   while (!reader.peek().startsWith('open ')) {
-    const [, axis, number, round, excluded, fallen] = reader.match(LOOK, 'a look');
+    const [, axis, number, round, excluded, fallen, stands, given] = reader.match(LOOK, 'a look');
     const at = Number(number) - 1;
     const indexOf = (place) => (axis === 'r' ? at * columns + place : place * columns + at);
     const falls = fallen.split(' ').slice(1).map(
@@ -205,7 +211,9 @@ function readPath(reader, size) {
       line: axis === 'r' ? at : rows + at,
       round: Number(round),
       excluded: Number(excluded),
-      falls
+      falls,
+      stands: stands !== undefined,
+      needs: premisesOf(given).map(({at, letters}) => ({index: indexOf(at - 1), letters}))
     });
   }
   return {kind: 'path', looks, open: numbers(reader.match(OPEN, 'the open cells'), 1)[0]};

@@ -293,6 +293,23 @@ class Answers(unittest.TestCase):
             with self.assertRaises(LengthError):
                 nonobench.check(tile, b"" if published else b" " * 16777217, published=published)
 
+    def test_path(self):
+        """By hand, as in tests/sessions/path.out: the diagonal with its first cell given."""
+        looks = nonobench.path(DIAGONAL, published=[(1, 1)]).looks
+        self.assertEqual(
+            looks,
+            (
+                ("r", 1, 1, 1, ((2, "."),), True, ((1, "a"),)),
+                ("c", 1, 1, 1, ((2, "."),), True, ((1, "a"),)),
+                ("c", 2, 1, 1, ((2, "a"),), False, ((1, "."),)),
+            ),
+        )
+        self.assertEqual(nonobench.path(DIAGONAL), nonobench.SolvingPath((), 4))
+        with self.assertRaises(TypeError):
+            nonobench.path(DIAGONAL, published=b"given 1 1\n")
+        with self.assertRaises(nonobench.NonobenchError):
+            nonobench.path(DIAGONAL, published=[(3, 1)])
+
     def test_prove_with_published_cells(self):
         """The diagonal has one solution with its first cell given. The certificate names just
         that."""

@@ -171,18 +171,49 @@ test('blank lines ask for nothing', () => {
 
 test('a path: each look by its line, rows first, and what fell by its place in the picture', () => {
   // By hand: row 2 of two settles both, then column 1 its first cell.
-  const path = one('path', 'r 2 1 2 1=a 2=.\nc 1 1 1\nc 2 2 1 1=a\nopen 1\n');
+  const path =
+      one('path',
+          'r 2 1 2 1=a 2=. stands\nc 1 1 1 given 2=.ab\nc 2 2 1 1=a stands given 1=ab 2=.\nopen 1\n'
+      );
   assert.deepEqual(path, {
     kind: 'path',
     open: 1,
     looks: [
-      {line: 1, round: 1, excluded: 2, falls: [{index: 2, letter: 'a'}, {index: 3, letter: '.'}]},
-      {line: 2, round: 1, excluded: 1, falls: []},
-      {line: 3, round: 2, excluded: 1, falls: [{index: 1, letter: 'a'}]},
+      {
+        line: 1,
+        round: 1,
+        excluded: 2,
+        falls: [{index: 2, letter: 'a'}, {index: 3, letter: '.'}],
+        stands: true,
+        needs: []
+      },
+      {
+        line: 2,
+        round: 1,
+        excluded: 1,
+        falls: [],
+        stands: false,
+        needs: [{index: 2, letters: '.ab'}]
+      },
+      {
+        line: 3,
+        round: 2,
+        excluded: 1,
+        falls: [{index: 1, letter: 'a'}],
+        stands: true,
+        needs: [{index: 1, letters: 'ab'}, {index: 3, letters: '.'}]
+      },
     ],
   });
   assert.deepEqual(one('path', 'open 0\n'), {kind: 'path', open: 0, looks: []});
-  for (const text of ['', 'open\n', 'r 1 1\nopen 0\n', 'r 1 1 1 1=\nopen 0\n', 'open 0\nopen 0\n'])
+  for (const text
+           of ['',
+               'open\n',
+               'r 1 1\nopen 0\n',
+               'r 1 1 1 1=\nopen 0\n',
+               'open 0\nopen 0\n',
+               'r 1 1 1 given\nopen 0\n',
+               'r 1 1 1 given 1=a stands\nopen 0\n'])
     fails('path', text);
   fails('path', 'open 0\n', null);
 });

@@ -35,6 +35,7 @@ from reference.sessions import (  # noqa: E402
     Session,
     agree,
     must_assess,
+    must_path,
     picture_rows,
 )
 from small_pictures import TRIPLES, Listing, blank_ppm, key_of  # noqa: E402
@@ -148,7 +149,7 @@ class Way:
                     'no certificate is found',
                 )
             if 'path' in self.asks:
-                output.must_lines(*Solving(document.rows, givens).path_lines())
+                must_path(output, Solving(document.rows, givens))
 
         self.lines += [f'{word} off' if word == 'assess' and off else word for word in self.asks]
         self.asked.append(judge)

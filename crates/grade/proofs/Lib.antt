@@ -1,8 +1,10 @@
 pub mod FallLemmas
+pub mod NeedLemmas
 pub mod PathLemmas
 pub mod Remaining
 pub mod RunLemmas
 pub mod SettleLemmas
+pub mod StandLemmas
 pub mod StartLaws
 pub mod StartLemmas
 pub mod TurnLemmas

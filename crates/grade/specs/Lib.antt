@@ -1,6 +1,7 @@
 pub mod Figures
 pub mod Laws
 pub mod Looks
+pub mod Needs
 pub mod Paths
 pub mod Runs
 pub mod Starts

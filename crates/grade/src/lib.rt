@@ -5,6 +5,7 @@ mod figures;
 mod grading;
 pub mod laws;
 mod look;
+mod needs;
 mod pathing;
 mod seen;
 mod start;

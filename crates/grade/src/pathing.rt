@@ -1,18 +1,18 @@
 //! The path of line logic on a puzzle: its looks that excluded something.
 
-ghost use Rattle.std.specs.Prelude.{◌≡◌, ◌≤◌, ◌-◌, List, length, count_ones, IfOk};
-ghost use Rattle.std.specs.List.{sum_by};
+ghost use Rattle.std.specs.Prelude.{◌≡◌, ◌≤◌, List, length, IfOk};
 ghost use Rattle.fixpoint.specs.ClosedFacts.{AreClosable};
 ghost use Rattle.grade.specs.Figures.{open_cells};
-ghost use Rattle.grade.specs.Looks.{Look, falls_between};
-ghost use Rattle.grade.specs.Paths.{made, path_of};
+ghost use Rattle.grade.specs.Looks.{Look};
+ghost use Rattle.grade.specs.Needs.{AreLeft};
+ghost use Rattle.grade.specs.Paths.{IsPath, Makes};
 ghost use Rattle.grade.specs.Runs.{IsRun};
 
 use crate::figures::open_cells;
 use crate::look::Advance;
 use crate::seen::Seen;
 use crate::walk::Walk;
-use clues::ClueBook;
+use clues::{Clue, ClueBook};
 use line_facts::{Facts, LineEngine};
 use std::alloc::{AllocError, Global};
 
@@ -24,7 +24,7 @@ pub struct Path {
     pub open: u64,
 }
 
-/// Runs line logic as `grade_lines` does, and writes down each look that excluded something.
+/// Runs line logic as `grade_lines` does, and writes down each look that excluded something, with what it needs.
 pub fn make_path<E: LineEngine>(
     alloc: Global,
     engine: &mut E,
@@ -33,7 +33,7 @@ pub fn make_path<E: LineEngine>(
 ) -> Result<Path, AllocError>
     requires { AreClosable book.now (E.longest engine.old) facts }
     ensures path { IfOk result (λ path. (looks : List Look) × IsRun book.now facts looks path.facts
-        × (path.looks.items ≡ path_of looks)) }
+        × IsPath book.now looks path.looks.items) }
     ensures open_cells { IfOk result (λ path. path.«open» ≡ open_cells path.facts) }
     ensures calls { E.calls engine.old ≤ E.calls engine.new }
     ensures same_longest { E.longest engine.new ≡ E.longest engine.old }
@@ -44,7 +44,7 @@ pub fn make_path<E: LineEngine>(
     let mut looks = Vec::new(alloc);
     while let Some(seen) = walk.look(engine, &mut facts, book) {
         if seen.excluded() != 0 {
-            looks.push(advance(alloc, &seen)?)?;
+            looks.push(advance(alloc, &seen, book.clue(seen.turn.line))?)?;
         }
     }
     let open = open_cells(&facts);
@@ -52,14 +52,15 @@ pub fn make_path<E: LineEngine>(
 }
 
 // What a look made.
-fn advance(alloc: Global, seen: &Seen) -> Result<Advance, AllocError>
-    requires { length seen.now.after ≡ length seen.now.before }
-    ensures { IfOk result (λ look. look ≡ made
-        seen.now.turn.line
-        seen.now.turn.round
-        (sum_by count_ones seen.now.before - sum_by count_ones seen.now.after)
-        (falls_between seen.now.before seen.now.after)) }
+fn advance(alloc: Global, seen: &Seen, clue: &Clue) -> Result<Advance, AllocError>
+    requires same_length { length seen.now.after ≡ length seen.now.before }
+    requires left { AreLeft clue.now seen.now.before seen.now.after }
+    ensures { IfOk result (Makes clue.now seen.now.turn.line seen.now.turn.round seen.now.before
+        seen.now.after) }
 {
     let falls = seen.falls(alloc)?;
-    Ok(Advance::make(seen.turn.line, seen.turn.round, seen.excluded(), falls))
+    let premises = seen.premises(alloc, clue)?;
+    let turn = seen.turn;
+    let (excluded, stands) = (seen.excluded(), seen.stands(clue));
+    Ok(Advance::make(turn.line, turn.round, excluded, falls, stands, premises))
 }

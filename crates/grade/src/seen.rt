@@ -45,7 +45,7 @@ impl LineMasks {
         LineMasks { cells, masks }
     }
 
-    fn as_slice(&self) -> &[u16]
+    pub(crate) fn as_slice(&self) -> &[u16]
         ensures value { result.now ≡ self.now }
         ensures short { length result.now ≤ MAX_SIDE }
     {

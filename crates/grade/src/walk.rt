@@ -5,9 +5,10 @@ ghost use Rattle.line_facts.specs.Counts.{counted};
 ghost use Rattle.line_facts.specs.Masks.{Masks};
 ghost use Rattle.picture.specs.LineSet.{HasName};
 ghost use Rattle.picture.specs.Rows.{HasLine};
-ghost use Rattle.clues.specs.ClueBook.{Clues};
+ghost use Rattle.clues.specs.ClueBook.{Clues, HasClue, clue_at};
 ghost use Rattle.fixpoint.specs.ClosedFacts.{AreClosable};
 ghost use Rattle.grade.specs.Looks.{HasOpenCell, Look};
+ghost use Rattle.grade.specs.Needs.{AreLeft};
 ghost use Rattle.grade.specs.Walking.{CanWalk, ComesToLook, Looks, Walks, remaining};
 
 use crate::seen::{LineMasks, Seen};
@@ -54,6 +55,9 @@ impl Walk {
             → Walks book.now start looks facts.old self.old
             → Looks book.now start looks facts.old facts.new self.new result }
         ensures lengths { IfSome result (λ seen. length seen.after ≡ length seen.before) }
+        ensures clue { IfSome result (λ seen. HasClue book.now seen.turn.line) }
+        ensures left { IfSome result
+            (λ seen. AreLeft (clue_at book.now seen.turn.line) seen.before seen.after) }
         ensures less { OnSome result
             (remaining facts.new self.new.due < remaining facts.old self.old.due) }
         ensures called { MatchOption

@@ -2,18 +2,19 @@
 
 ghost use Rattle.std.specs.Prelude.{◌≡◌, ◌%◌, ◌++◌, OnOk};
 ghost use Rattle.std.specs.List.{flat_map};
-ghost use Rattle.grade_text.specs.PathText.{fall_text, look_text, path_text};
+ghost use Rattle.grade_text.specs.PathText.{fall_text, look_text, path_text, stands_text};
 ghost use Rattle.report_text.specs.ClueText.{letter_of};
 ghost use Rattle.report_text.specs.Shown.{letter};
 
 use crate::numbers::push_numbers;
 use grade::{Advance, Fall, Path};
 use picture::{Axis, MAX_COLOURS};
+use report_text::push_premises;
 use std::alloc::AllocError;
 
 #[tactic(auto, using(std::proofs::lemmas::List::append_assoc))]
-/// Appends a path to a text: a line for each look, as `r 2 1 2 1=a 3=.`, and how many cells are open. Where memory is refused,
-/// a part may have been appended.
+/// Appends a path to a text: a line for each look, as `r 2 1 2 1=a 3=. stands given 2=a`, and how many cells are open. Where memory
+/// is refused, a part may have been appended.
 pub fn push_path(text: &mut Vec<u8>, path: &Path) -> Result<(), AllocError>
     ensures { OnOk result (text.new.items
         ≡ text.old.items ++ path_text path.now.looks.items path.now.«open») }
@@ -27,7 +28,8 @@ pub fn push_path(text: &mut Vec<u8>, path: &Path) -> Result<(), AllocError>
 }
 
 #[tactic(auto, using(std::proofs::lemmas::List::append_assoc))]
-// A look: its line, the round, how many exclusions it made, and the cells that fell.
+// A look: its line, the round, how many exclusions it made, the cells that fell, whether all blocks of the line stood before, and
+// the premises.
 fn push_look(text: &mut Vec<u8>, look: &Advance) -> Result<(), AllocError>
     ensures { OnOk result (text.new.items ≡ text.old.items ++ look_text look.now) }
 {
@@ -36,7 +38,19 @@ fn push_look(text: &mut Vec<u8>, look: &Advance) -> Result<(), AllocError>
     let number = u64::from(line.at) + 1;
     push_numbers(text, &[number, look.round(), u64::from(look.excluded())])?;
     push_falls(text, look.falls())?;
+    push_stands(text, look.stands())?;
+    push_premises(text, look.premises())?;
     Ok(text.push(b'\n')?)
+}
+
+// A word where all blocks of the line stood before the look.
+fn push_stands(text: &mut Vec<u8>, stands: bool) -> Result<(), AllocError>
+    ensures { OnOk result (text.new.items ≡ text.old.items ++ stands_text stands) }
+{
+    if stands {
+        text.extend_from_slice(b" stands")?;
+    }
+    Ok(())
 }
 
 // The cells that fell.

@@ -11,7 +11,7 @@ use Rattle.assess.specs.Calls.{AreFewInAll}
 use Rattle.grade.specs.declared.pathing.Path.{Path}
 use Rattle.grade.specs.Figures.{open_cells}
 use Rattle.grade.specs.Looks.{Look}
-use Rattle.grade.specs.Paths.{path_of}
+use Rattle.grade.specs.Paths as paths
 use Rattle.grade.specs.Runs.{IsRun}
 use Rattle.grade.specs.Starts.{IsStart}
 use Rattle.live_audit.specs.Bench.{AreGivenCells}
@@ -25,14 +25,14 @@ pub record IsDocumentOf (d : Design) (document : Document) : Type 0 where
 abbrev pub HoldsOf : Design → (Document → Type 0) → Type 0
 HoldsOf d Is = (document : Document) × (IsDocumentOf d document × Is document)
 
--- The looks of line logic on a document that excluded something, in order, and how many cells are open at the end. It
--- starts with the colours that clues, background and givens allow.
+-- The looks of line logic on a document that excluded something, in order, each with what it needs, and how many cells
+-- are open at the end. It starts with the colours that clues, background and givens allow.
 pub record IsPath (path : Path) (document : Document) : Type 0 where
   pub start : Masks
   pub is_start : IsStart (clues_of document.picture) document.givens document.picture start
   pub looks : List Look
   pub is_run : IsRun (clues_of document.picture) start looks path.facts
-  pub path_is : path.looks.items ≡ path_of looks
+  pub path_is : paths.IsPath (clues_of document.picture) looks path.looks.items
   pub open_is : path.«open» ≡ open_cells path.facts
 
 abbrev pub IsPathOf : Design → Path → Type 0

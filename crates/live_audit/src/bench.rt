@@ -404,8 +404,8 @@ impl<E: LineEngine + Drop, A: Agenda + Drop> Bench<E, A> {
         }
     }
 
-    /// The path of line logic on the present puzzle: its looks that excluded something. Nothing is kept, and nothing changes but
-    /// `calls`.
+    /// The path of line logic on the present puzzle: its looks that excluded something, each with premises of which none can be
+    /// left out, and whether all blocks of its line stood before. Nothing is kept, and nothing changes but `calls`.
     pub fn path(&mut self) -> Result<Path, AllocError>
         ensures path { IfOk result (IsPathOf self.old.history.document) }
         ensures as_before { IsAsBefore self.old self.new }

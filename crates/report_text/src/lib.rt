@@ -7,6 +7,6 @@ mod report;
 mod shown;
 
 pub use clue_text::{clues_text, push_number};
-pub use reason_text::push_reason;
+pub use reason_text::{push_premises, push_reason};
 pub use report::{ENDING_ROOM, push_ending, push_front};
 pub use shown::{push_map, push_picture};

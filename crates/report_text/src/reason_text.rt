@@ -23,8 +23,9 @@ pub fn push_reason(text: &mut Vec<u8>, reason: &Reason) -> Result<(), AllocError
     text.extend_from_slice(b"\n")
 }
 
-// The premises, where there are some.
-fn push_premises(text: &mut Vec<u8>, premises: &[Premise]) -> Result<(), AllocError>
+/// Appends premises to a text, where there are some, as ` given 1=a 3=.b`: of each the place, from 1, and the letters left there.
+/// Where memory is refused, a part may have been appended.
+pub fn push_premises(text: &mut Vec<u8>, premises: &[Premise]) -> Result<(), AllocError>
     ensures { OnOk result (text.new.items ≡ text.old.items ++ premises_text premises.now) }
 {
     if premises.is_empty() {

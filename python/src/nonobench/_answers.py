@@ -264,6 +264,48 @@ class Proved:
     certificate: Optional[bytes] = None
 
 
+class Look(NamedTuple):
+    """A look at a line that excluded something (docs/SESSION.md, Line logic). The line is a row, `r`,
+    or a column, `c`, by its number. Cells that fell come by their places along the line and the
+    letter that is left, premises by their places and the letters that were left there; numbers and
+    places count from 1. `stands`: all blocks of the line stood before the look."""
+
+    axis: str
+    number: int
+    round: int
+    excluded: int
+    falls: tuple[tuple[int, str], ...]
+    stands: bool
+    premises: tuple[tuple[int, str], ...]
+
+
+class SolvingPath(NamedTuple):
+    """The path of line logic: its looks in order, and how many cells stay open."""
+
+    looks: tuple[Look, ...]
+    open: int
+
+
+def path_of(text: str) -> SolvingPath:
+    """The path that a text tells."""
+    *lines, last = text.splitlines()
+    return SolvingPath(tuple(map(_look_of, lines)), int(last.split(" ")[1]))
+
+
+def _look_of(line: str) -> Look:
+    front, _, needs = line.partition(" given ")
+    axis, number, round_, excluded, *words = front.split(" ")
+    stands = words[-1:] == ["stands"]
+    falls = _cells_of(words[:-1] if stands else words)
+    numbers = int(number), int(round_), int(excluded)
+    return Look(axis, *numbers, falls, stands, _cells_of(needs.split()))
+
+
+def _cells_of(words: list[str]) -> tuple[tuple[int, str], ...]:
+    pairs = (word.split("=") for word in words)
+    return tuple((int(place), letters) for place, letters in pairs)
+
+
 def proved_of(text: bytes) -> Proved:
     """What a text tells: a certificate, or why there is none."""
     if text.startswith(b"nono"):

@@ -17,11 +17,13 @@ from ._answers import (
     Proved,
     Puzzle,
     Result,
+    SolvingPath,
     Verdict,
     assessment_of,
     clues_of,
     error_of,
     givens_of,
+    path_of,
     proved_of,
     result_of,
     verdict_of,
@@ -165,6 +167,19 @@ class Questions:
         """
         return verdict_of(self._say(picture, background, _allow(allowance) + b"verdict\n")[-1])
 
+    def path(
+        self,
+        picture: Bytes,
+        background: Optional[Colour] = None,
+        published: Iterable[tuple[int, int]] = (),
+    ) -> SolvingPath:
+        """The path of line logic on a picture, some of whose cells are published: each look at a
+        line that excluded something, with what it needs."""
+        if isinstance(published, (AnyGiven, bytes, bytearray, memoryview)):
+            raise TypeError("published must be pairs of row and column")
+        pins = (_file_of(published) or b"").replace(b"given", b"pin")
+        return path_of(self._say(picture, background, pins + b"path\n")[-1].decode("ascii"))
+
     def certify(self, picture: Bytes, background: Optional[Colour] = None) -> Optional[bytes]:
         """A certificate of a picture, without givens, or None if another picture has its clues. It
         may take very long."""
@@ -258,7 +273,7 @@ assess, check, clues, verdict, certify, audit = (
     _here.certify,
     _here.audit,
 )
-prove, puzzles_of = _here.prove, _here.puzzles_of
+path, prove, puzzles_of = _here.path, _here.prove, _here.puzzles_of
 
 
 def picture_of(columns: int, rows: int, triples: Iterable[Colour], maxval: int = 255) -> bytes:

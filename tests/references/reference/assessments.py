@@ -9,7 +9,7 @@ from functools import lru_cache
 
 import plain_forms
 
-from .lines import base_of, clues_of, close, letter, narrow
+from .lines import base_of, clue_of, clues_of, close, letter, narrow
 from .search import open_cells, pictures_with
 
 TEXT = re.compile(
@@ -90,7 +90,9 @@ class Solving:
                 if not after[at] & (after[at] - 1):
                     falls.append(f' {at + 1}={letter(after[at].bit_length() - 1)}')
         self.rounds = number
-        self.path.append(f'{line[0]} {line[1] + 1} {number} {excluded}{"".join(falls)}')
+        stands = ' stands' if stand(self.clues[line], masks) else ''
+        text = f'{line[0]} {line[1] + 1} {number} {excluded}{"".join(falls)}{stands}'
+        self.path.append((text, line, masks, after))
         if falls:
             self.wait = max(self.wait, self.since)
             self.since = 0
@@ -99,9 +101,11 @@ class Solving:
         """How many cells are open in the end."""
         return sum(1 for mask in self.left if mask & (mask - 1))
 
-    def path_lines(self):
-        """The path as it is printed."""
-        return [*self.path, f'open {self.open()}']
+
+def stand(clue, masks):
+    """Whether all blocks of a line stand: its settled cells have its clue, with background in the
+    open ones."""
+    return clue == clue_of([0 if mask & (mask - 1) else mask.bit_length() - 1 for mask in masks])
 
 
 @lru_cache

@@ -272,7 +272,7 @@ class Session:
 
     def say_path(self, output):
         """The path of line logic."""
-        output.must_lines(*Solving(self.document.rows, self.document.givens).path_lines())
+        must_path(output, Solving(self.document.rows, self.document.givens))
 
     def say_assess_off(self, output):
         """The assessment without an allowance."""
@@ -298,3 +298,38 @@ class Session:
     def say_write_non(self, output):
         """The picture as a .non text."""
         output.must(write_non(self.document.rows))
+
+
+def must_path(output, solving):
+    """The next lines must be the path: each look as far as it is fixed, and premises of it of which
+    none can be left out."""
+    for text, line, before, after in solving.path:
+        front, _, words = output.line().decode().partition(' given ')
+        agree(front == text, f'{front!r} is {text!r}')
+        must_need(solving.clues[line], before, after, words.split())
+    output.must_lines(f'open {solving.open()}')
+
+
+def must_need(clue, before, after, words):
+    """The premises of a look force all that it excludes, and none of them can be left out."""
+    wanted = [
+        (at, colour)
+        for at, mask in enumerate(before)
+        for colour in range(16)
+        if (mask & ~after[at]) >> colour & 1
+    ]
+    masks, places = [0xFFFF] * len(before), [int(word.split('=')[0]) - 1 for word in words]
+    agree(places == sorted(set(places)), f'places out of order: {words}')
+    for at, word in zip(places, words):
+        agree(0 <= at < len(before), f'a place outside: {word}')
+        agree(word == f'{at + 1}={mask_letters(before[at])}', f'{word} is not what is left there')
+        masks[at] = before[at]
+    agree(force_all(clue, masks, wanted), f'the premises do not force it: {words}')
+    for at in places:
+        fewer = [*masks[:at], 0xFFFF, *masks[at + 1 :]]
+        agree(not force_all(clue, fewer, wanted), f'the premise at {at + 1} can be left out')
+
+
+def force_all(clue, masks, wanted):
+    """Whether a line forces some exclusions."""
+    return all(forces(clue, masks, at, colour) for at, colour in wanted)

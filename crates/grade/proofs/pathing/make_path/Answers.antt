@@ -1,5 +1,5 @@
-use Rattle.std.proofs.Common.{List, [], ◌∷◌, ◌++◌, ◌∙◌, ap, arith, refl}
-use Rattle.grade.specs.Paths.{Made}
+use Rattle.std.proofs.Common.{List, [], ◌∷◌, ◌++◌, ◌∙◌, arith, refl, sym, subst}
+use Rattle.grade.specs.Paths.{IsPath, Made}
 use Rattle.grade.specs.Runs.{look_in}
 use Rattle.grade.proofs.PathLemmas.{goes_on, stays}
 use Rattle.grade.proofs.pathing.make_path.Goals as goal
@@ -19,14 +19,15 @@ pub loop-seen-preserved-in_ok-push : goal.loop-seen-preserved-in_ok-push
 loop-seen-preserved-in_ok-push g c =
     let i = c.loop-seen.invariant in
     let seen = c.in-Some.ensures.looks c.args.facts i.seen i.walks in
+    let next = look_in c.in-Some.seen.turn c.loop-seen.facts c.look.new.facts ∷ i.seen in
     record {
       can = c.look.ensures.can;
       closable = c.look.ensures.closable;
-      seen = look_in c.in-Some.seen.turn c.loop-seen.facts c.look.new.facts ∷ i.seen;
+      seen = next;
       walks = seen.1;
-      path = c.in_ok-push.ensures.items
-          ∙ (ap (λ (looks : List Made). looks ++ c.in_ok-advance.field-0 ∷ []) i.path
-          ∙ goes_on c.in-Some.seen c.loop-seen.facts c.look.new.facts i.seen c.excluded.result seen.0 c.excluded.ensures c.if-excluded-ne0.true c.in_ok-advance.field-0 c.in_ok-advance.ensures);
+      path = subst (IsPath c.args.book.now next) (sym c.in_ok-push.ensures.items)
+          (goes_on c.args.book.now c.in-Some.seen c.loop-seen.facts c.look.new.facts i.seen c.loop-seen.looks.items c.excluded.result seen.0 c.excluded.ensures i.path c.if-excluded-ne0.true
+          c.in_ok-advance.field-0 (rw c.clue.ensures.value at c.in_ok-advance.ensures));
       called = (let once = c.in-Some.ensures.called in let before = i.called in omega (arith, once, before));
       same_longest = c.look.ensures.same_longest ∙ i.same_longest;
     }
@@ -40,7 +41,8 @@ loop-seen-preserved g c =
       closable = c.look.ensures.closable;
       seen = look_in c.in-Some.seen.turn c.loop-seen.facts c.look.new.facts ∷ i.seen;
       walks = seen.1;
-      path = i.path ∙ stays c.in-Some.seen c.loop-seen.facts c.look.new.facts i.seen c.excluded.result seen.0 c.excluded.ensures (omega (arith, c.if-excluded-ne0.false));
+      path = stays c.args.book.now c.in-Some.seen c.loop-seen.facts c.look.new.facts i.seen c.loop-seen.looks.items c.excluded.result seen.0 c.excluded.ensures i.path
+          (omega (arith, c.if-excluded-ne0.false));
       called = (let once = c.in-Some.ensures.called in let before = i.called in omega (arith, once, before));
       same_longest = c.look.ensures.same_longest ∙ i.same_longest;
     }

@@ -2,7 +2,7 @@ use Rattle.std.proofs.Common.{◌≡◌, List, length}
 use Rattle.line_facts.specs.Counts.{counted}
 use Rattle.fixpoint.specs.ClosedFacts.{AreClosable}
 use Rattle.grade.specs.Looks.{Look}
-use Rattle.grade.specs.Paths.{path_of}
+use Rattle.grade.specs.Paths.{IsPath}
 use Rattle.grade.specs.Walking.{CanWalk, Walks, remaining}
 use Rattle.grade.proofs.pathing.make_path.Given as goal
 
@@ -12,7 +12,7 @@ invariant-loop-seen g l = record {
   closable : AreClosable l.book (g.E.LineEngine.longest l.engine) l.facts;
   seen : List Look;
   walks : Walks l.book l.fn.facts seen l.facts l.walk;
-  path : l.looks.items ≡ path_of seen;
+  path : IsPath l.book seen l.looks.items;
   called : g.E.LineEngine.calls l.engine ≡ counted (g.E.LineEngine.calls l.fn.engine) (length seen);
   same_longest : g.E.LineEngine.longest l.engine ≡ g.E.LineEngine.longest l.fn.engine;
 }

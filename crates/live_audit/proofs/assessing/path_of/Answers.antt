@@ -13,7 +13,7 @@ returns-clause-path g c =
           is_start = rw (← clues) c.in_ok-start.ensures.start;
           looks = made.path.0;
           is_run = rw (← clues) made.path.1;
-          path_is = made.path.2;
+          path_is = rw (← clues) made.path.2;
           open_is = made.open_cells;
         },
       ),

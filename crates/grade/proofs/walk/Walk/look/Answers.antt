@@ -1,6 +1,7 @@
 use Rattle.std.proofs.Common.{length, refl, sym, ap, ◌∙◌, arith}
 use Rattle.grade.specs.declared.walk.Walk.{Walk}
 use Rattle.line_facts.proofs.GridLaws.{same_line_length}
+use Rattle.grade.proofs.NeedLemmas.{left_after}
 use Rattle.grade.proofs.WalkLemmas.{can_after, less_after, walks_after}
 use Rattle.grade.proofs.walk.Walk.look.Goals as goal
 
@@ -25,6 +26,11 @@ pub returns-clause-lengths : goal.returns-clause-lengths
 returns-clause-lengths g c =
     let gains = c.force_crossing-forced.ensures.gains in
     ap length c.of-after.ensures ∙ (same_line_length c.args.facts.now c.force_crossing-forced.new.facts c.in_ok-turn.turn.line gains.same_shape ∙ sym (ap length c.of-before.ensures))
+
+pub returns-clause-left : goal.returns-clause-left
+returns-clause-left g c =
+    let gains = rw c.clue.ensures.value at c.force_crossing-forced.ensures.gains in
+    left_after _ c.in_ok-turn.turn.line c.args.facts.now c.force_crossing-forced.new.facts _ _ _ c.of-before.ensures c.of-after.ensures gains
 
 pub returns-clause-less : goal.returns-clause-less
 returns-clause-less g c =
