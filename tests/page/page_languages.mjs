@@ -155,6 +155,7 @@ export async function germanPoint(hands, {page, trial}) {
   await closed(page);
   await overThePage(page, 'German', true);
   await hands.menu('file', 'new');
+  await page.until(() => document.getElementById('examples')?.checkVisibility(), 8000 * SLACK);
   assert.match(await trial.text('#start'), /Beispiele.*Ballon.*Herz/);
   assert.deepEqual(
       [await page.run(MISLAID), await page.run(ENGLISH)], [[], []], 'the start screen'
@@ -205,6 +206,7 @@ export async function frenchPoint(hands, {page, trial}) {
   assert.deepEqual(await page.run(MISLAID), [], 'Fix it');
   await overThePage(page, 'French');
   await hands.menu('file', 'new');
+  await page.until(() => document.getElementById('examples')?.checkVisibility(), 8000 * SLACK);
   assert.match(await trial.text('#start'), /Exemples.*cœur/);
   assert.deepEqual(await page.run(MISLAID), [], 'the start screen');
 }
