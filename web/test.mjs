@@ -589,8 +589,12 @@ test(
       assert.deepEqual(
           refused(DIAGONAL, {background: 'white'}), ['option', 'background must be R,G,B']
       );
-      assert.deepEqual(refused(DIAGONAL, {published: [[3, 1]]}), ['givens', 'givens Place at line 1']);
-      assert.deepEqual(refused(DIAGONAL, {published: 'any'}), ['givens', 'givens BadLine at line 1']);
+      assert.deepEqual(
+          refused(DIAGONAL, {published: [[3, 1]]}), ['givens', 'givens Place at line 1']
+      );
+      assert.deepEqual(
+          refused(DIAGONAL, {published: 'any'}), ['givens', 'givens BadLine at line 1']
+      );
       assert.deepEqual(
           refused(DIAGONAL, {certificate: ''}), ['certificate', 'certificate NotCert at line 1']
       );
