@@ -118,6 +118,10 @@ async function overThePage(page, where, hears = false) {
 
 // ---- German
 
+// The examples are read once the library is listed.
+const isListed = (page) =>
+    page.until(() => 'listed' in document.getElementById('start').dataset, 5000 * SLACK);
+
 /**
  * German is chosen in the menu View; then a walk in it, in which nothing is cut and no English is
  * left.
@@ -155,7 +159,7 @@ export async function germanPoint(hands, {page, trial}) {
   await closed(page);
   await overThePage(page, 'German', true);
   await hands.menu('file', 'new');
-  await page.until(() => document.getElementById('examples')?.checkVisibility(), 8000 * SLACK);
+  await isListed(page);
   assert.match(await trial.text('#start'), /Beispiele.*Ballon.*Herz/);
   assert.deepEqual(
       [await page.run(MISLAID), await page.run(ENGLISH)], [[], []], 'the start screen'
@@ -206,7 +210,7 @@ export async function frenchPoint(hands, {page, trial}) {
   assert.deepEqual(await page.run(MISLAID), [], 'Fix it');
   await overThePage(page, 'French');
   await hands.menu('file', 'new');
-  await page.until(() => document.getElementById('examples')?.checkVisibility(), 8000 * SLACK);
+  await isListed(page);
   assert.match(await trial.text('#start'), /Exemples.*cœur/);
   assert.deepEqual(await page.run(MISLAID), [], 'the start screen');
 }
