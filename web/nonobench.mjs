@@ -224,8 +224,7 @@ export function readAssessment(text) {
   };
 }
 
-const LOOK =
-    /^([rc]) (\d+) (\d+) (\d+)((?: \d+=[.a-o])*)( stands)?((?: given(?: \d+=[.a-o]+)+)?)$/;
+const LOOK = /^([rc]) (\d+) (\d+) (\d+)((?: \d+=[.a-o])*)( stands)?((?: given(?: \d+=[.a-o]+)+)?)$/;
 
 // Cells of a line: words such as 3=ab, each a place along it and letters.
 const cellsIn = (words) => words.split(' ').filter((word) => word.includes('=')).map((word) => {
@@ -243,14 +242,14 @@ export function readPath(text) {
   if (!last || lines.at(-1) !== '' || found.includes(null))
     throw new TypeError(`this is no path: ${text.slice(0, 60)}`);
   const looks = found.map(([, axis, number, round, excluded, falls, stands, premises]) => ({
-    axis,
-    number: Number(number),
-    round: Number(round),
-    excluded: Number(excluded),
-    falls: cellsIn(falls),
-    stands: stands !== undefined,
-    premises: cellsIn(premises)
-  }));
+                            axis,
+                            number: Number(number),
+                            round: Number(round),
+                            excluded: Number(excluded),
+                            falls: cellsIn(falls),
+                            stands: stands !== undefined,
+                            premises: cellsIn(premises)
+                          }));
   return {looks, open: Number(last[1])};
 }
 

@@ -1,20 +1,14 @@
 -- What a look needs of its line.
-use Rattle.std.proofs.Common.{◌≡◌, ℕ, ◌<◌, List, length, refl, sym, ap, subst, ◌∙◌}
-use Rattle.std.specs.Prelude.{IsBitSet}
+use Rattle.std.proofs.Common.{◌≡◌, ℕ, List, sym, subst, ◌∙◌}
 use Rattle.clues.specs.declared.block.Block.{Block}
-use Rattle.clues.specs.ClueBook.{Clues, clue_at}
 use Rattle.line_facts.specs.Masks.{Masks}
 use Rattle.line_facts.specs.declared.line_engine.Outcome.{Outcome}
 use Rattle.line_facts.specs.FactSets.{Gains}
-use Rattle.line_settle.specs.LeftOut.{ForcesAll, LeavesOut}
+use Rattle.line_settle.specs.LeftOut.{LeavesOut}
 use Rattle.picture.specs.declared.line_id.LineId.{LineId}
 use Rattle.picture.specs.Rows.{line_of}
 use Rattle.justify.specs.declared.premise.Premise.{Premise}
 use Rattle.grade.specs.Needs.{AreDrawn, AreLeft, AreNeeded, premises_of}
-
--- the line forces what is drawn
-pub forces_drawn : (clue : List Block) (before after drawn : List ℕ) → AreLeft clue before after → AreDrawn before after drawn → ForcesAll clue before drawn
-forces_drawn clue before after drawn left are i k d can = ((are i k).0 d).1 ((left i k).1 can)
 
 -- what is left after leaving out what is not needed
 pub needed : (clue : List Block) (before after old new drawn left kept : List ℕ) → old ≡ before → new ≡ after → left ≡ old → AreDrawn old new drawn → LeavesOut clue drawn left kept

@@ -265,10 +265,10 @@ class Proved:
 
 
 class Look(NamedTuple):
-    """A look at a line that excluded something (docs/SESSION.md, Line logic). The line is a row, `r`,
-    or a column, `c`, by its number. Cells that fell come by their places along the line and the
-    letter that is left, premises by their places and the letters that were left there; numbers and
-    places count from 1. `stands`: all blocks of the line stood before the look."""
+    """A look at a line that excluded something (docs/SESSION.md, Line logic). The line is a row,
+    `r`, or a column, `c`, by its number. Cells that fell come by their places along the line and
+    the letter that is left, premises by their places and the letters that were left there; numbers
+    and places count from 1. `stands`: all blocks of the line stood before the look."""
 
     axis: str
     number: int
