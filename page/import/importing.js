@@ -2,9 +2,11 @@
 // colours, and what comes of it, drawn anew at each change, with its verdict.
 
 import {fieldOf, hasFingers, make} from '../base/elements.js';
+import {verdictPlace} from '../base/names.js';
 import {capital, clamp} from '../base/words.js';
 import {MOST_CELLS, MOST_COLOURS} from '../document/limits.js';
 import {COLOUR_NAMES} from '../document/named.js';
+import {iconOf} from '../draw/icons.js';
 import {drawSmall, penOf, penWith} from '../draw/small.js';
 import {kindOfPalette} from '../formats/palettes.js';
 import {openDoc} from '../library/open.js';
@@ -54,9 +56,11 @@ const MOST_WORKED = 480;
 const MOST_MIDDLE = 960;  // pixels a side of a copy of the image
 const SLOW_MS = 40;       // where the last preview took longer, a sketch comes first
 const SKETCH_REST = 150;  // milliseconds without a change before the preview follows a sketch
-const shownSide = () =>
-    (matchMedia('(min-width: 1500px) and (min-height: 900px)').matches ? 480 : 320
-    );  // pixels of the two pictures in the dialog
+// Pixels of the two pictures in the dialog.
+function shownSide() {
+  if (matchMedia('(min-width: 1500px) and (min-height: 900px)').matches) return 480;
+  return matchMedia('(min-width: 1240px) and (min-height: 700px)').matches ? 400 : 320;
+}
 const MOST_SPECK = 12;
 const MOST_SEGMENTS = 8;
 const AROUND = 0.008;  // of a photo's longer side: how far around a click its colour is a mean
@@ -98,7 +102,9 @@ class Importing {
     });
     this.turning = new Turning(() => this.change('turning'), () => this.showBest());
     this.judged = (found) => {
-      this.verdict.textContent = judgedText(found);
+      const icon = verdictPlace(found.word) < 0 ? [] : [iconOf(found.word)];
+      this.verdict.dataset.verdict = found.word;
+      this.verdict.replaceChildren(...icon, judgedText(found));
     };
     this.judging = new Judging(this.judged);
     this.alike = new Alike(() => this.inks.merge());

@@ -115,7 +115,7 @@ class Table {
     );
     this.element = make(
         'div',
-        {},
+        {class: 'rows'},
         make('div', {class: 'ground'}, this.count, this.repair, csv),
         ...notes,
         make('div', {class: 'scrolls'}, table)

@@ -144,6 +144,7 @@ export const DE =
           'view.whatCertificate': 'Wozu ein Zertifikat dient',
           'view.whereYourPictures': 'Wo Ihre Bilder sind',
           'view.page': 'Diese Seite',
+          'view.drawing': 'Zeichnen',
           'view.arrows': 'Pfeiltasten',
           'view.moveShiftTheyDraw': 'bewegen; mit Umschalt zeichnen',
           'view.spaceEnter': 'Leertaste, Eingabe',

@@ -130,6 +130,7 @@ export const EN = /** @type {const} */ ({
   'view.whatCertificate': 'What a certificate is for',
   'view.whereYourPictures': 'Where your pictures are',
   'view.page': 'This page',
+  'view.drawing': 'Drawing',
   'view.arrows': 'Arrows',
   'view.moveShiftTheyDraw': 'move; with Shift they draw',
   'view.spaceEnter': 'Space, Enter',

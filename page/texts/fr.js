@@ -142,6 +142,7 @@ export const FR =
           'view.whatCertificate': 'À quoi sert un certificat',
           'view.whereYourPictures': 'Où sont vos images',
           'view.page': 'Cette page',
+          'view.drawing': 'Dessin',
           'view.arrows': 'Flèches',
           'view.moveShiftTheyDraw': 'déplacer ; avec Maj elles dessinent',
           'view.spaceEnter': 'Espace, Entrée',

@@ -12,7 +12,7 @@ export const actions = new Map();
 const HEADS = {
   export: phrase('export.export')
 };  // of groups in a menu
-const MENUS = {
+export const MENUS = {
   file: phrase('view.file'),
   edit: phrase('view.edit'),
   picture: phrase('view.picture'),

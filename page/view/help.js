@@ -2,8 +2,9 @@
 
 import {make} from '../base/elements.js';
 import {built} from '../engine/client.js';
+import {capital} from '../base/words.js';
 import {phrase} from '../texts/phrase.js';
-import {actionButton, actions, addAction, keyText} from './actions.js';
+import {MENUS, actionButton, actions, addAction, keyText} from './actions.js';
 import {openDialog} from './dialogs.js';
 
 const CERTIFICATE = [
@@ -56,23 +57,36 @@ const FIXED_KEYS = [
   [phrase('view.wheel'), phrase('view.zoomShiftAcross')],
   [phrase('view.rightButtonAlt'), phrase('view.pickColourHelp')],
   [phrase('view.homeEndPage'), phrase('view.jump')],
+  [phrase('view.digits'), phrase('view.chooseColour0Background')],
 ];
 
+// Keys as they are on a keyboard, with a text between them.
+const keysOf = (keys, between) =>
+    keys.flatMap((key, at) => [...(at ? [between] : []), make('kbd', {}, keyText(key))]);
+
+// The keys of some actions, and others before them, under a head.
+function keysPart(head, list, others = []) {
+  const keys = [
+    ...others.map(([key, name]) => [keysOf(key.split(', '), ', '), name]),
+    ...list.map(({key, name}) => [keysOf(key.split(' '), phrase('view.or')), name])
+  ];
+  const rows =
+      keys.flatMap(([key, name]) => [make('dt', {}, ...key), make('dd', {}, capital(name))]);
+  return part(head, make('dl', {}, ...rows));
+}
+
 function showKeys() {
-  const list = make('dl', {class: 'keys'});
-  for (const [key, what] of FIXED_KEYS) list.append(make('dt', {}, key), make('dd', {}, what));
-  for (const action of actions.values())
-    if (action.key && !/^colour-[0-9]/.test(action.id))
-      list.append(
-          make('dt', {}, keyText(action.key).replace(' ', phrase('view.or'))),
-          make('dd', {}, action.name)
-      );
-  list.append(
-      make('dt', {}, phrase('view.digits')), make('dd', {}, phrase('view.chooseColour0Background'))
+  const keyed = [...actions.values()].filter(({id, key}) => key && !/^colour-[0-9]/.test(id));
+  const of = (place) => keyed.filter((action) => action.place === place);
+  const content = make(
+      'div',
+      {class: 'keys'},
+      keysPart(phrase('view.drawing'), keyed.filter(({place}) => !MENUS[place]), FIXED_KEYS),
+      ...Object.entries(MENUS).map(([place, name]) => keysPart(name, of(place)))
   );
   openDialog({
     title: phrase('view.keyboardShortcuts'),
-    content: list,
+    content,
     wide: true,
     buttons: [{name: phrase('view.close'), value: null, main: true}]
   });
