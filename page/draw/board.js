@@ -137,10 +137,9 @@ export function drawBlock(surface, look, block, {x, y, width, height}) {
     drawChip(surface, look, at, {x, y, width, height});
   const text = blockText(look, block);
   const size = textSize(look, block, {width, height});
-  const [middle, high] = look.isWhole ? [height / 2 + 0.5, Math.floor(size)] : [height / 2, size];
   if (size >= look.least)
-    surface.text(text, x + width / 2, y + middle, {
-      size: high,
+    surface.text(text, x + width / 2, y + height / 2, {
+      size: look.isWhole ? Math.floor(size) : size,
       ink: look.style === 'chip' ? look.inks[at] : look.ink,
       family: look.family,
       weight: look.weight

@@ -6,7 +6,8 @@ import {clamp} from '../base/words.js';
 
 const SMALLEST = 3;  // a cell's side in the page's pixels
 const LARGEST = 64;
-const MARGIN = 6;
+const MARGIN = 16;  // the page's pixels at the right of a picture that is fitted
+const TIGHT = 6;    // below it, and where its clues are folded
 // blocks of a clue for which a picture that is fitted has room, however short its clues and lines
 // are
 const FEW = 4;
@@ -116,17 +117,17 @@ export class Geometry {
    * three pixels are too many else.
    */
   fitting() {
+    const [margin, tight] = [MARGIN * this.scale, TIGHT * this.scale];
     for (let side = LARGEST; side >= SMALLEST; side--) {
       const cell = Math.round(side * this.scale);
       const {left, top} = this.room(cell);
-      if (left + this.columns * cell + MARGIN <= this.width &&
-          top + this.rows * cell + MARGIN <= this.height)
+      if (left + this.columns * cell + margin <= this.width &&
+          top + this.rows * cell + tight <= this.height)
         return {cell, isFolded: false};
     }
     const {left, top} = this.edges();
-    const margin = MARGIN * this.scale;
     const most = Math.min(
-        (this.width - left - margin) / this.columns, (this.height - top - margin) / this.rows
+        (this.width - left - tight) / this.columns, (this.height - top - tight) / this.rows
     );
     return {cell: Math.floor(clamp(most, 1, this.least)), isFolded: true};
   }
@@ -134,6 +135,10 @@ export class Geometry {
   resize(width, height, scale) {
     [this.width, this.height, this.scale] =
         [Math.round(width * scale), Math.round(height * scale), scale];
+  }
+
+  get margin() {
+    return Math.round((this.isFolded ? TIGHT : MARGIN) * this.scale);
   }
 
   /** Shows the whole picture. */
@@ -159,11 +164,18 @@ export class Geometry {
     Object.assign(this, this.isFolded ? this.edges() : this.room(this.cell));
     this.font = this.fontFor(this.cell);
     this.pitch = this.pitchFor(this.cell);
-    // A picture smaller than its room stands in the middle, somewhat above it.
-    const free = (room, length) => Math.max(0, room - length - MARGIN);
+    // A picture smaller than its room stands in the middle with the clues that it has, somewhat
+    // above it.
+    const {margin} = this;
+    const free = (room, length, edge) => Math.max(0, room - length - edge);
+    const [across, down] = [
+      free(this.width - this.left, this.columns * this.cell, margin),
+      free(this.height - this.top, this.rows * this.cell, TIGHT * this.scale)
+    ];
+    const spare = this.isFolded ? 0 : this.left - this.room(this.cell, 0).left;
     this.slack = {
-      x: Math.floor(free(this.width - this.left, this.columns * this.cell) / 2),
-      y: Math.floor(free(this.height - this.top, this.rows * this.cell) / 3)
+      x: Math.floor(clamp((across + margin - spare) / 2, 0, across)),
+      y: Math.floor(down / 3)
     };
   }
 
@@ -225,11 +237,11 @@ export class Geometry {
   // Where the picture is smaller than its room it stays; else an edge comes no further than its
   // margin.
   clamp() {
-    const over = (length, room) => Math.max(0, length + MARGIN * this.scale - room);
-    this.panX =
-        Math.round(clamp(this.panX, 0, over(this.columns * this.cell, this.width - this.left)));
-    this.panY =
-        Math.round(clamp(this.panY, 0, over(this.rows * this.cell, this.height - this.top)));
+    const over = (length, room) => Math.max(0, length - room);
+    const [wide, high] =
+        [this.columns * this.cell + this.margin, this.rows * this.cell + TIGHT * this.scale];
+    this.panX = Math.round(clamp(this.panX, 0, over(wide, this.width - this.left)));
+    this.panY = Math.round(clamp(this.panY, 0, over(high, this.height - this.top)));
   }
 
   // The edges of the room of the cells.

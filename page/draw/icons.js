@@ -46,6 +46,7 @@ const PATHS = {
   delete: 'M4 6h12M8 6V4h4v2M5.5 6l.8 10.5h7.4L14.5 6M8.5 9v4.5M11.5 9v4.5',
   tick: 'M4 10.5l4 4 8-9',
   back: 'M16.5 10h-13M9 4.5L3.5 10 9 15.5',
+  forth: 'M3.5 10h13M11 4.5l5.5 5.5-5.5 5.5',
   earlier: 'M12 5l-5 5 5 5',
   later: 'M8 5l5 5-5 5',
   above: 'M5 12l5-5 5 5',
@@ -65,7 +66,8 @@ const PATHS = {
 
 // What is filled of an icon, besides its lines.
 const FILLED = {
-  box: 'M6 7.5h8v5H6z'
+  box: 'M6 7.5h8v5H6z',
+  more: [3, 8.5, 14].map((x) => `M${x} 10a1.5 1.5 0 103 0 1.5 1.5 0 10-3 0z`).join('')
 };
 
 /** The icon of a name. It is seen, and no more: what has it has a name of its own. */

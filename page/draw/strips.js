@@ -147,17 +147,17 @@ export class Strips {
         sizeOf: (block) => ({width: this.rowWidth(at, block), height})
       };
     }
-    const size = {
-      width: Math.min(at.cell - 1, Math.round(at.font * 2.6)),
-      height: at.cell < 7 * at.scale ? Math.round(4 * at.scale) : at.pitch
-    };
+    const isTiny = at.cell < 7 * at.scale;
+    const height = isTiny ? Math.round(4 * at.scale) : at.pitch;
+    const widthOf = (block) =>
+        (isTiny ? at.cell - 1 : Math.min(at.cell - 1, this.rowWidth(at, block)));
     return {
       near: at.originY - gap,
       far: at.slack.y + around,
       middle: at.x(line) + at.cell / 2,
       gap: 1,
       unit,
-      sizeOf: () => size
+      sizeOf: (block) => ({width: widthOf(block), height})
     };
   }
 

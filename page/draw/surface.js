@@ -1,6 +1,8 @@
 // What a board is drawn on: the pen of a canvas, or SVG as text. Both know the same few shapes, in
 // the units of who draws.
 
+const MIDDLE = 0.36;  // of a digit's size, from its foot to its middle
+
 /** The pen of a canvas. */
 export class CanvasSurface {
   constructor(pen) {
@@ -60,9 +62,9 @@ export class CanvasSurface {
     const {pen} = this;
     pen.font = `${weight} ${size}px ${family}`;
     pen.textAlign = {middle: 'center', start: 'left', end: 'right'}[anchor];
-    pen.textBaseline = 'middle';
+    pen.textBaseline = 'alphabetic';
     pen.fillStyle = ink;
-    pen.fillText(text, x, y);
+    pen.fillText(text, x, y + MIDDLE * size);
   }
 
   /** Draws what `draw` does fainter. */
@@ -85,7 +87,6 @@ const escaped = (text) =>
     ).replace(/[&<>"]/g, (sign) => FOR_TEXT[sign]);
 const rounded = (value) =>
     (typeof value === 'number' ? String(Math.round(value * 100) / 100) : escaped(value));
-const MIDDLE = 0.36;  // of a digit's size, from its foot to its middle
 
 /** SVG, as a text. All its texts are of the family of the drawing. */
 export class SvgSurface {

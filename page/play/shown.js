@@ -10,9 +10,9 @@ const GUESS = 'rgb(160 40 110 / 45%)';
 
 /** The tint of a round: from light to dark; what needs a guess (-1) apart. */
 export const heatOf = (round, most) =>
-    (round < 0 ?
-         GUESS :
-         `hsl(${210 - (200 * Math.max(0, round - 1)) / Math.max(1, most - 1)} 85% 45% / 45%)`);
+    (round < 0 ? GUESS :
+                 `hsl(24 90% 48% / ${
+                     Math.round(12 + (68 * Math.max(0, round - 1)) / Math.max(1, most - 1))}%)`);
 
 function ring(pen, index, ink, breadth, dash) {
   const {side, state} = play;
@@ -55,7 +55,7 @@ function drawHeat(pen, rounds, ink) {
 export function drawShown(pen, ink) {
   const {shown, heat, side, state} = play;
   if (heat) drawHeat(pen, heat, ink);
-  if (!shown) return;
+  if (heat || !shown) return;
   if (shown.line !== null) {
     const across = shown.line < state.rows;
     const at = across ? shown.line : shown.line - state.rows;

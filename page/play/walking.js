@@ -10,9 +10,11 @@ import {confirmDialog} from '../view/dialogs.js';
 import {Walk, pathOf} from './path.js';
 import {play, playSays, showSolved} from './play.js';
 import {drawPlay, refitPlay} from './playdraw.js';
+import {heatOf} from './shown.js';
 import {stepText} from './telling.js';
 
 const PACE = 900;  // milliseconds a step
+const KEY_TINTS = 8;
 
 const walking = {
   walk: null,
@@ -139,10 +141,30 @@ function stopPlaying() {
   if ($('walk-play')) withIcon($('walk-play'), 'play', phrase('play.playSteps'));
 }
 
+// The tints of the heat map, from the first round to the last, and that of what needs a guess.
+function heatKey(rounds) {
+  const most = Math.max(1, ...rounds);
+  const few = Math.min(most, KEY_TINTS);
+  const tints = Array.from({length: few}, (_, at) => Math.ceil((at + 1) * most / few));
+  const swatch = (round) => {
+    const one = make('span', {class: 'swatch'});
+    one.style.background = heatOf(round, most);
+    return one;
+  };
+  return make(
+      'span',
+      {id: 'heat-key', 'aria-hidden': 'true'},
+      ...(rounds.some((round) => round > 0) ? ['1 ', ...tints.map(swatch), `${most}`] : []),
+      ...(rounds.includes(-1) ? [' ? ', swatch(-1)] : [])
+  );
+}
+
 function showHeat() {
   play.heat = $('walk-heat').checked ? walking.walk.rounds : null;
   drawPlay();
-  if (play.heat) playSays(phrase('play.numberCellRoundFalls'));
+  if (!play.heat) return goTo(walking.at);
+  playSays(phrase('play.numberCellRoundFalls'));
+  return $('play-said').append(' ', heatKey(play.heat));
 }
 
 /** Ends the path: the player's marks stand again. */

@@ -123,7 +123,7 @@ function openCard(example) {
       make('p', {}, hasFingers() ? phrase('start.tapToChoose') : phrase('start.dropFileHerePaste')),
       make(
           'button',
-          {type: 'button', class: 'main', id: 'open-go', onclick: () => chooseFile()},
+          {type: 'button', id: 'open-go', onclick: () => chooseFile()},
           phrase('start.chooseFile')
       ),
       make('p', {class: 'faint'}, phrase('start.pngJpegGifWebp'))

@@ -11,15 +11,17 @@ import {docOfExample} from './start.js';
 
 const action = (id) => $('verdict-do').querySelector(`[data-action="${id}"]`);
 
-// The marks, each with what it is about: the first of its elements that is seen.
+// The marks, each with what it is about: the first of its elements that is seen; and whether that
+// is behind More on a phone.
 const MARKS = [
   [phrase('start.tourPaint'), () => [$('palette').querySelector('[aria-checked="true"]')]],
   [phrase('start.tourRead'), () => [$('verdict')]],
-  [phrase('start.tourOther'), () => [action('other'), $('verdict-open')]],
+  [phrase('start.tourOther'), () => [action('other'), $('verdict-open')], true],
   [phrase('start.tourFix'), () => [action('fix'), $('verdict-open')]],
   [phrase('start.tourPublish'), () => [action('publish'), action('fix'), $('verdict-open')]]
 ];
 
+const APART = 12;  // pixels between a mark and the panel
 const tour = {
   part: null,
   at: 0
@@ -27,8 +29,25 @@ const tour = {
 
 const targetOf = (parts) => parts().find((one) => one?.offsetParent) ?? $('stage');
 
+// Beside the panel, which says more of what the mark is about; on a phone below what is said there.
+function place(target) {
+  placeBeside(tour.part, target === $('verdict') ? $('audit') : target);
+  const {left, width} = $('panels').getBoundingClientRect();
+  if (!width) return;
+  const {offsetWidth: wide, offsetHeight: high, style} = tour.part;
+  const {top} = target.getBoundingClientRect();
+  style.left = `${left - wide - APART}px`;
+  style.top = `${Math.max(APART, Math.min(top, innerHeight - high - APART))}px`;
+}
+
+function openMore(isWanted) {
+  const more = $('verdict-open');
+  if (more.checkVisibility() && (more.ariaExpanded === 'true') !== isWanted) more.click();
+}
+
 function showMark() {
-  const [text, parts] = MARKS[tour.at];
+  const [text, parts, isMore = false] = MARKS[tour.at];
+  openMore(isMore);
   const isLast = tour.at === MARKS.length - 1;
   for (const one of document.querySelectorAll('.toured')) one.classList.remove('toured');
   const target = targetOf(parts);
@@ -50,7 +69,7 @@ function showMark() {
           {class: 'main'}
       )
   );
-  placeBeside(tour.part, target);
+  place(target);
   $('tour-next').focus({preventScroll: true});
 }
 
@@ -96,6 +115,6 @@ export function startTours() {
     run: startTour
   });
   on('judged', () => {
-    if (tour.part) placeBeside(tour.part, targetOf(MARKS[tour.at][1]));
+    if (tour.part) place(targetOf(MARKS[tour.at][1]));
   });
 }

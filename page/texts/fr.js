@@ -321,7 +321,7 @@ export const FR =
           'view.oneSolution': 'une seule solution',
           'view.noGuessing': 'soluble ligne par ligne',
           'view.aGrade': 'la difficulté « {grade} »',
-          'view.asPens': 'comme les pinceaux, si l’image l’a',
+          'view.asPens': 'comme les pinceaux, si possible',
           'view.keepsSymmetry': 'Symétrie : {name}.',
           'view.withoutSymmetry': 'Sans la symétrie, il y en a peut-être.',
           'view.comes': 'pas demandée',
@@ -416,14 +416,13 @@ export const FR =
           'view.coloursNewOrderUndo': 'Les couleurs ont un nouvel ordre. Annuler rend l’ancien.',
           'view.colours': 'Couleurs',
           'view.addColour': 'Ajouter une couleur',
-          'view.change': 'Changer',
           'view.noRepairChangesCells': 'Aucune réparation ne change les cases de cette couleur',
           'view.name': 'Nom',
           'view.oneSignEachCell': 'Un signe par case en XML',
-          'view.sign': 'Signe',
+          'view.sign': 'Signe en XML',
           'view.merge': 'Fusionner',
-          'view.earlier': 'Plus tôt',
-          'view.later': 'Plus tard',
+          'view.earlier': 'Déplacer à gauche',
+          'view.later': 'Déplacer à droite',
           'view.placeOfCell': 'ligne {value}, colonne {columns}',
           'view.nearerOnly': '. Plus près, mais pas assez : {far}',
           'view.thenCellsGuess':
@@ -437,7 +436,7 @@ export const FR =
           'view.repaint': 'Repeindre ',
           'view.alsoGive': ', et donner {given}',
           'view.closer': 'plus près',
-          'view.spot': 'l{row} c{col}',
+          'view.spot': 'Ligne {row}, colonne {col}',
           'view.givenShort': '{cells|# donnée|# de données|# données}',
           'view.guessShort': '{cells|# ouverte|# d’ouvertes|# ouvertes}',
           'view.keep': 'garder en liste',
@@ -487,7 +486,7 @@ export const FR =
           'view.neitherYet': 'Ni autre image ni preuve pour le moment.',
           'view.someNeedGuessing':
               '{open} cases sur {count} {open|demande|demandent|demandent} plus que la logique ligne par ligne.',
-          'view.lineLogicSolvesWithout': 'La logique ligne par ligne suffit à la résoudre.',
+          'view.lineLogicSolvesWithout': 'La logique ligne par ligne y suffit.',
           'view.noOtherPictureThese': 'Aucune autre image n’a ces indices{with}. {open}',
           'view.anotherPictureTheseClues':
               'Une autre image a aussi ces indices. Elle diffère en {cells|# case|# de cases|# cases}.',
@@ -611,7 +610,7 @@ export const FR =
           'play.pause': 'Pause',
           'play.playSteps': 'Lire',
           'play.numberCellRoundFalls':
-              'Le nombre dans une case est le tour où elle est déterminée ; ? demande plus que la logique ligne par ligne.',
+              'Chaque teinte est un tour de la logique ligne par ligne, où ses cases sont déterminées ; ? demande plus que cela.',
           'play.path': 'Chemin de résolution',
           'play.share': '{share} %',
           'play.afterShare': 'Après {share} % du chemin',
@@ -997,11 +996,11 @@ export const FR =
           'export.shareLink': 'Partager un lien …',
           'export.shareHolds':
               'Contient toute la grille dans une adresse, à résoudre ou à modifier, ou en HTML pour un site.',
-          'export.publish': 'Publier',
           'export.done': 'Terminé',
           'export.forSites': 'Pour les sites de grilles',
           'export.forPlayers': 'Pour les joueurs',
           'export.asImage': 'En image',
+          'export.publish': 'Publier',
           // ---- start
           'start.justNow': 'à l’instant',
           'start.newestFirst': 'Les plus récentes d’abord',
@@ -1061,7 +1060,7 @@ export const FR =
           'start.tourFix':
               'Réparez\u00a0: la page cherche des cases à repeindre ou à donner, pour qu’il reste une solution. Appuyez sur une proposition pour la prendre\u00a0; une annulation la retire.',
           'start.tourPublish':
-              'Publiez\u00a0: une fois qu’il n’y a qu’une solution, la grille s’enregistre, s’imprime et se partage d’ici.',
+              'Publiez\u00a0: une fois qu’il n’y a qu’une solution, le bouton pour cela apparaît ici. Il enregistre, imprime et partage la grille.',
           'start.back': 'Retour à {name}',
           'start.drawPictureOpenOne':
               'Dessinez une image ou ouvrez-en une. Vous voyez ses indices, et s’ils n’ont qu’une solution. Puis exportez la grille, ou imprimez-la.',

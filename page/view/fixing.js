@@ -253,7 +253,7 @@ async function findRepairs() {
   fixSays('');
   showAdjust(false);
   showFound();
-  $('fix').scrollTo({left: 0});  // on a phone all is in one strip, and the list is its beginning
+  for (const id of ['fix', 'fix-list']) $(id).scrollTo(0, 0);  // the list is what is looked at
   const {goal, turn} = fixing;
   if (goal === 'unique' && of.verdict?.word === 'unique')
     return fixSays(phrase('view.oneSolutionThere'));

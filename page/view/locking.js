@@ -1,7 +1,7 @@
 // What a repair may change: by the rule for neighbours, with a symmetry, and without what is
 // locked.
 
-import {$, buttonOf, choiceOf, make} from '../base/elements.js';
+import {$, buttonOf, choiceOf, fieldOf, make} from '../base/elements.js';
 import {unlocked} from '../document/document.js';
 import {placesOfBox} from '../document/regions.js';
 import {bench} from '../engine/bench.js';
@@ -74,7 +74,7 @@ export function limitChoices(says, changed) {
   );
   return [
     make('p', {}, make('label', {}, rule, phrase('view.onlyNeighboursColourNo'))),
-    make('p', {}, make('label', {}, phrase('view.symmetry'), mirror)),
+    fieldOf(phrase('view.symmetry'), mirror),
     make(
         'div',
         {class: 'group'},

@@ -361,12 +361,7 @@ function fillEditor() {
       make('label', {class: 'field', title}, make('span', {}, name), ...fields);
   palette.editor.append(
       palette.text,
-      make(
-          'div',
-          {class: 'field'},
-          make('span', {}, phrase('view.change')),
-          make('div', {id: 'swatch-colour'}, palette.picker, palette.named)
-      ),
+      make('div', {id: 'swatch-colour'}, palette.picker, palette.named),
       row(phrase('view.name'), null, palette.name),
       row(phrase('view.sign'), phrase('view.oneSignEachCell'), palette.sign),
       make(
@@ -394,7 +389,7 @@ function addColourActions() {
   add('colour-delete', phrase('view.delete'), deleteColour);
   add('colour-earlier', phrase('view.earlier'), () => moveColour(-1));
   add('colour-later', phrase('view.later'), () => moveColour(1));
-  for (const [id, icon] of [['colour-earlier', 'earlier'], ['colour-later', 'later']])
+  for (const [id, icon] of [['colour-earlier', 'back'], ['colour-later', 'forth']])
     withIcon($('colour-more').querySelector(`[data-action=${id}]`), icon, actions.get(id).name);
   for (const id of ['colour-merge', 'colour-delete'])
     $('colour-more')

@@ -247,7 +247,8 @@ export function showVerdictButtons() {
       (id) => $('verdict-do').querySelector(`[data-action="${id}"]`)
   );
   publish.hidden ||= !isWord('unique');
-  publish.classList.toggle('main', fix.hidden);
+  publish.disabled = isBlank(bench.state);
+  publish.classList.toggle('main', fix.hidden && !publish.disabled);
   const name = sheet.other ? phrase('view.backYourPicture') : phrase('view.showOtherPicture');
   withIcon(other, 'other', name, 'x').setAttribute('aria-pressed', sheet.other === true);
   withIcon(

@@ -50,7 +50,7 @@ TEXTS = {
     ".non": b"width 2\nheight 1\nrows\n1\ncolumns\n1\n0\n",
     ".cert": CERT.encode(),
     ".givens": b"given 1 1\n",
-    ".background": b"255,255,255\n",
+    ".background": b"0,0,40\n",
 }
 SAVED = '<solution type="saved" id="givens"><image>|X?||??|</image></solution>'
 # A puzzle that no search decides in a second.
@@ -278,8 +278,11 @@ class Strangers(Case):
         rows = self.rows("site", "--untrusted", status=1)
         self.assertEqual(rows["given.xml"]["verdict"], "ambiguous")
         self.assertEqual(rows["given.xml"]["ignored"], ["givens in the XML"])
-        self.assertEqual(rows["dark.xml"]["background"], "ffffff")
-        self.assertEqual(rows["dark.xml"]["ignored"], ["background in the XML"])
+        why = "its background 0,0,0 is not believed: name it"
+        self.assertEqual(
+            (rows["dark.xml"]["verdict"], rows["dark.xml"]["error"], rows["dark.xml"]["fit"]),
+            ("error", why, False),
+        )
         ours = self.folder / "ours"
         ours.mkdir()
         (ours / "given.xml.givens").write_text("given 2 2\n")
@@ -297,6 +300,27 @@ class Strangers(Case):
         self.assertEqual((row["verdict"], row["ignored"]), ("ambiguous", ["certificate", "givens"]))
         table = self.run_audit("site", "--untrusted").stdout
         self.assertIn("two.ppm; not believed: certificate, givens", table)
+
+    def test_a_background_that_is_named_is_judged_or_refused(self):
+        """Navy on red has two solutions; on white it has one."""
+        navy = p3(AMBIGUOUS, (0, 0, 40))
+        self.put("moon.ppm", navy)
+        self.put("moon.ppm.background", "0,0,40")
+        self.put("white.ppm", p3(UNIQUE))
+        self.put("white.ppm.background", "white")
+        rows = self.rows("site", "--untrusted", status=1)
+        why = "its background 0,0,40 is not believed: name it"
+        self.assertEqual((rows["moon.ppm"]["verdict"], rows["moon.ppm"]["error"]), ("error", why))
+        self.assertEqual(rows["white.ppm"]["verdict"], "unique")
+        rows = self.rows("site", "--untrusted", "--background", "0,0,40")
+        self.assertEqual(rows["moon.ppm"]["verdict"], "ambiguous")
+        self.assertEqual(rows["white.ppm"]["verdict"], "error")
+
+    def test_what_is_called_otherwise_than_what_belongs_to_a_file(self):
+        self.put("moon.ppm", p3(UNIQUE))
+        self.put("moon.ppm.Background", "0,0,40")
+        row = self.rows("site/moon.ppm", status=1)["site/moon.ppm"]
+        self.assertIn("its background is called moon.ppm.background", row["error"])
 
 
 class Rows(Case):

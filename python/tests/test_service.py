@@ -105,7 +105,10 @@ def test_backgrounds(client):
 
 def test_what_a_strangers_xml_names_is_not_believed(client):
     row = row_of(client, "/assess", puzzle=XML)
-    assert "givens" not in row and row["ignored"]
+    assert (row["verdict"], row["fit"]) == ("error", False)
+    assert row["error"] == "its background 0,0,0 is not believed: name it"
+    row = row_of(client, "/assess", puzzle=XML, background="0,0,0")
+    assert "givens" not in row and row["ignored"] == ["givens in the XML"]
     row = row_of(client, "/assess", puzzle=XML, background="0,0,0", givens="given 1 2\n")
     assert (row["verdict"], row["background"], row["givens"]) == ("unique", "000000", [[1, 2]])
 

@@ -52,9 +52,11 @@ const MISLAID = () => {
   const header = document.querySelector('header');
   if (isRead && header.scrollWidth > header.clientWidth + 1)
     wrong.push(`the header is ${header.scrollWidth} px wide`);
+  // The button for more of a tile lies in its corner.
   const buttons =
       all.filter(
-             (one) => one.matches('button, select, input:not([type=checkbox]):not([type=radio])')
+             (one) => one.matches('button, select, input:not([type=checkbox]):not([type=radio])') &&
+                 !one.closest('.tile-more')
       ).map((one) => [one, one.getBoundingClientRect()]);
   for (const [at, [one, box]] of buttons.entries()) {
     for (const [other, next] of buttons.slice(at + 1)) {
@@ -118,6 +120,10 @@ async function overThePage(page, where, hears = false) {
 
 // ---- German
 
+// The examples are read once the library is listed.
+const isListed = (page) =>
+    page.until(() => 'listed' in document.getElementById('start').dataset, 5000 * SLACK);
+
 /**
  * German is chosen in the menu View; then a walk in it, in which nothing is cut and no English is
  * left.
@@ -155,6 +161,7 @@ export async function germanPoint(hands, {page, trial}) {
   await closed(page);
   await overThePage(page, 'German', true);
   await hands.menu('file', 'new');
+  await isListed(page);
   assert.match(await trial.text('#start'), /Beispiele.*Ballon.*Herz/);
   assert.deepEqual(
       [await page.run(MISLAID), await page.run(ENGLISH)], [[], []], 'the start screen'
@@ -205,6 +212,7 @@ export async function frenchPoint(hands, {page, trial}) {
   assert.deepEqual(await page.run(MISLAID), [], 'Fix it');
   await overThePage(page, 'French');
   await hands.menu('file', 'new');
+  await isListed(page);
   assert.match(await trial.text('#start'), /Exemples.*cœur/);
   assert.deepEqual(await page.run(MISLAID), [], 'the start screen');
 }

@@ -322,8 +322,7 @@ const partsBelowSaid = (page) => page.run(() => {
     'header',
     '#tools',
     '#stage',
-    '#fix',
-    ...(box('#panels').width ? ['#panels'] : ['#audit', '#colours'])
+    ...(box('#panels').width ? ['#panels'] : ['#audit', '#colours', '#fix'])
   ]
       .filter(
           (one) =>

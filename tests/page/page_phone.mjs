@@ -339,7 +339,7 @@ export async function verdictLineOnPhones({browser, url, folder}) {
           over <= 0 && least >= (size[0] === 320 ? 36 : 44),
           `${where}: the header is ${over} px too wide, its least button ${least} px`
       );
-      assert.ok(high <= (size[0] > 600 ? 132 : 56), `${where}: the line is ${high} px high`);
+      assert.ok(high <= (size[0] > 600 ? 132 : 72), `${where}: the line is ${high} px high`);
       await page.shot(`${folder}/line-${language}-${size[0]}.png`);
       assert.deepEqual(await look(), {texts: ['verdict', 'verdict-short'], cut: [], out: 0}, where);
       assert.deepEqual(page.faults, []);
@@ -438,7 +438,9 @@ export async function withinThePanel({browser, url, folder}) {
           ['task', 'stage'].map((id) => document.getElementById(id).getBoundingClientRect());
       const ends = [...panel.querySelectorAll('button, input, select')]
                        .filter((one) => one.checkVisibility())
-                       .map((one) => one.getBoundingClientRect().bottom);
+                       .map((one) => one.getBoundingClientRect())
+                       .filter(({left}) => left < task.right)
+                       .map(({bottom}) => bottom);
       return [stage.bottom > task.top && stage.right > task.left, Math.max(...ends) - task.top];
     });
     assert.ok(!over && below <= 0, `${where}: ${over}, ${below}`);

@@ -531,7 +531,7 @@ export async function tutorialSteps({browser, url, folder}) {
   );
   // As docs/TUTORIAL.md tells it.
   assert.equal((await proposals(page))[0], '2 cells: row 2, column 5; row 2, column 12');
-  assert.equal(await trial.text('#fix-list li [data-where]'), 'r2 c5 …');
+  assert.equal(await trial.text('#fix-list li [data-where]'), 'Row 2, column 5 …');
   await page.run(() => document.querySelector('#fix-list button').click());
   await page.until(() => bench.state.picture[1] === '....a......a....', 5000 * SLACK);
   assert.equal(await trial.judged(), 'unique');

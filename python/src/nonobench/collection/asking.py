@@ -183,7 +183,8 @@ def key_of(question: Question, options: Options) -> str:
     parts = [None if part is None else _sum(part) for part in question[1:5]]
     ending = question.name.lower().rpartition(".")[2]
     kept = options._replace(seconds=0, memory=0)
-    return _sum(repr((_tool(), ending, parts, question.ignored, kept)).encode())
+    claim = question.ignored, question.claimed
+    return _sum(repr((_tool(), ending, parts, claim, kept)).encode())
 
 
 def _sum(data: bytes) -> str:

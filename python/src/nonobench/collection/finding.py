@@ -6,7 +6,9 @@ one ending. They lie beside it, or at the same path below another folder.
 
 from __future__ import annotations
 
+import functools
 import os
+import re
 import stat
 from collections import Counter
 from typing import Iterable, Iterator, NamedTuple, Optional
@@ -18,6 +20,7 @@ from .puzzles import Question, need
 
 PUZZLES = (".ppm", ".pgm", ".pbm", ".pnm", ".png", ".non", ".xml")  # in any letters
 ENDINGS = {".cert": "certificate", ".givens": "givens", ".background": "background"}
+_ANY_ENDING = re.compile("|".join(map(re.escape, ENDINGS)))
 Skipped = Counter[str]
 
 
@@ -27,8 +30,8 @@ class Found(NamedTuple):
     name: str
     path: str
     belonging: dict[str, str] = {}  # by endings
-    ignored: tuple[str, ...] = ()  # what lies beside it and is not believed
-    why: str = ""  # it is no puzzle
+    ignored: dict[str, str] = {}  # what lies beside it and is not believed
+    why: str = ""  # it is no puzzle, or what is meant to belong to it is called otherwise
 
 
 def is_puzzle(name: str) -> bool:
@@ -36,9 +39,32 @@ def is_puzzle(name: str) -> bool:
     return name.lower().endswith(PUZZLES)
 
 
+Meant = dict[str, list[tuple[str, str]]]
+
+
+def meant_in(names: Iterable[str]) -> Meant:
+    """Files that may be meant to belong to a puzzle, by its name in small letters, with the ending:
+    their names begin with both, in whatever letters."""
+    found: Meant = {}
+    for name in names:
+        for ending in () if is_puzzle(name) else _ANY_ENDING.finditer(name.lower()):
+            whose = name.lower()[: ending.start()]
+            found.setdefault(whose, []).append((name, ending[0]))
+    return found
+
+
+@functools.lru_cache(16)
+def _meant_beside(folder: str) -> Meant:
+    try:
+        with os.scandir(folder or ".") as entries:
+            return meant_in([one.name for one in entries if not one.is_dir(follow_symlinks=False)])
+    except OSError:
+        return {}
+
+
 def walk(folder: str, skipped: Skipped, failures: list[OSError]) -> Iterator[tuple[str, list[str]]]:
     """The folders below one, and the files in each, in order. Links and hidden names are counted:
-    a link that is called as what belongs to a puzzle stays, and cannot be read."""
+    a link that may be meant to belong to a puzzle stays, and cannot be read."""
     waiting = [""]
     while waiting:
         below = waiting.pop()
@@ -48,7 +74,7 @@ def walk(folder: str, skipped: Skipped, failures: list[OSError]) -> Iterator[tup
                 for entry in entries:
                     if entry.name.startswith("."):
                         skipped["hidden"] += 1
-                    elif entry.is_symlink() and not entry.name.endswith(tuple(ENDINGS)):
+                    elif entry.is_symlink() and not _ANY_ENDING.search(entry.name.lower()):
                         skipped["links"] += 1
                     elif entry.is_dir(follow_symlinks=False):
                         folders.append(os.path.join(below, entry.name))
@@ -81,8 +107,9 @@ class Search:
             }
             puzzles = [os.path.join(below, name) for name in names if is_puzzle(name)]
             believed = lying if self._is_believed else apart
+            meant = meant_in(names)
             for name in puzzles:
-                yield self._found(name, os.path.join(folder, name), believed, lying)
+                yield self._found(name, os.path.join(folder, name), believed, lying, meant)
             if self._is_believed:
                 yield from _of_none(lying, puzzles)
                 lying = {}
@@ -103,17 +130,31 @@ class Search:
             if self._beside is not None:
                 paths = {one: os.path.join(self._beside, one) for one in map(name.__add__, ENDINGS)}
                 apart = {one: path for one, path in paths.items() if os.path.lexists(path)}
-            yield self._found(name, name, lying if self._is_believed else apart, lying)
+            believed = lying if self._is_believed else apart
+            meant = _meant_beside(os.path.dirname(name))
+            yield self._found(name, name, believed, lying, meant)
 
     def _found(
-        self, name: str, path: str, believed: dict[str, str], lying: dict[str, str]
+        self, name: str, path: str, believed: dict[str, str], lying: dict[str, str], meant: Meant
     ) -> Found:
         """A puzzle, with what belongs to it: this is taken out of what is believed."""
         belonging = {
             ending: believed.pop(name + ending) for ending in ENDINGS if name + ending in believed
         }
-        beside = [what for ending, what in ENDINGS.items() if name + ending in lying]
-        return Found(name, path, belonging, () if self._is_believed else tuple(beside))
+        beside = {one: lying[name + one] for one in ENDINGS if name + one in lying}
+        ignored = {} if self._is_believed else beside
+        return Found(name, path, belonging, ignored, self._misnamed(name, meant))
+
+    def _misnamed(self, name: str, meant: Meant) -> str:
+        """Why a puzzle is refused that something is meant to belong to: it is called otherwise."""
+        folder, own = os.path.split(name)
+        more: Meant = {}
+        if self._beside is not None:
+            more = _meant_beside(os.path.join(self._beside, folder))
+        for other, ending in [*meant.get(own.lower(), ()), *more.get(own.lower(), ())]:
+            if other not in map(own.__add__, ENDINGS):
+                return f"beside it is {other}: its {ENDINGS[ending]} is called {own}{ending}"
+        return ""
 
     def _belongings(self, folder: str) -> dict[str, str]:
         return {
@@ -140,7 +181,14 @@ def question_of(found: Found) -> Question:
         ENDINGS[ending]: bytes_of(path, f"its {ENDINGS[ending]}: ")
         for ending, path in found.belonging.items()
     }
-    return Question(found.name, bytes_of(found.path), **parts, ignored=found.ignored)
+    claimed = found.ignored.get(".background")
+    return Question(
+        found.name,
+        bytes_of(found.path),
+        **parts,
+        ignored=tuple(ENDINGS[one] for one in found.ignored if one != ".background"),
+        claimed=None if claimed is None else bytes_of(claimed, "its background: "),
+    )
 
 
 def bytes_of(path: str, whose: str = "") -> bytes:

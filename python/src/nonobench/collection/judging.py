@@ -53,13 +53,14 @@ def parts_of(question: Question, options: Options) -> list[bytes]:
     """A question as it goes to the process."""
     is_there = [part is not None for part in question[2:4]]
     background = None if question.background is None else question.background.decode("latin-1")
-    head = [question.name, background, question.ignored, is_there, options]
+    claimed = None if question.claimed is None else question.claimed.decode("latin-1")
+    head = [question.name, background, question.ignored, claimed, is_there, options]
     return [json.dumps(head).encode("ascii"), question.data, question[2] or b"", question[3] or b""]
 
 
 def _question_of(parts: tuple[bytes, ...]) -> tuple[Question, Options]:
     head, data, certificate, givens = parts
-    name, background, ignored, (has_certificate, has_givens), options = json.loads(head)
+    name, background, ignored, claimed, (has_certificate, has_givens), options = json.loads(head)
     question = Question(
         name,
         data,
@@ -67,6 +68,7 @@ def _question_of(parts: tuple[bytes, ...]) -> tuple[Question, Options]:
         givens if has_givens else None,
         None if background is None else background.encode("latin-1"),
         tuple(ignored),
+        None if claimed is None else claimed.encode("latin-1"),
     )
     return question, Options(*options)
 
@@ -126,6 +128,7 @@ def _judged(question: Question, options: Options) -> Row:
         raise UnreadableError(f"its certificate is refused: {row['certificate']['why']}")
     if said is None:
         said = _assessed(picture, None, options.max_guesses)
+    reading.need_claims(picture)
     is_accepted = row.get("certificate", {"accepted": True})["accepted"]
     flaws = [str(flaw) for flaw in said.flaws]
     is_fit = said.verdict.ruling is Ruling.UNIQUE and not refused_flaws(flaws, options.allowed)

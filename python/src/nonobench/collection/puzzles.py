@@ -40,6 +40,7 @@ class Question(NamedTuple):
     givens: Optional[bytes] = None  # lines `given R C`
     background: Optional[bytes] = None  # `white` or R,G,B
     ignored: tuple[str, ...] = ()  # what lies beside it and is not believed
+    claimed: Optional[bytes] = None  # a background that lies beside it and is not believed
 
 
 class Options(NamedTuple):

@@ -40,6 +40,7 @@ class Picture(NamedTuple):
     is_non: bool = False
     ink: Colour = BLACK  # of a .non text
     ignored: tuple[str, ...] = ()  # what its XML names and is not believed
+    claims: tuple[Optional[Colour], ...] = ()  # backgrounds that are named and not believed
 
 
 def background_named(word: str) -> Optional[Colour]:
@@ -59,9 +60,25 @@ def picture_of(question: Question, options: Options) -> Picture:
     """The picture of a puzzle."""
     word = _word_of(question, options)
     picture = _read(question, word, options.is_untrusted)
+    if question.claimed is not None:
+        claim = background_named(_believed_or_not(question.claimed))
+        picture = picture._replace(claims=(*picture.claims, claim))
     if question.givens is None:
         return picture
     return picture._replace(givens=question.givens)
+
+
+def need_claims(picture: Picture) -> None:
+    """Refuses a picture that can be read if it was judged on another background than somebody
+    names: who publishes the file publishes that."""
+    most = 255
+    if picture.claims and not picture.is_non:
+        most = int(_images.plain_words(picture.text[2:], 3)[2])
+    white = (most,) * 3
+    judged = picture.background or white
+    for claim in picture.claims:
+        named = colour_word(claim or white).decode("ascii")
+        need((claim or white) == judged, f"its background {named} is not believed: name it")
 
 
 def puzzles_of(data: bytes, background: Optional[Colour], asked: Questions) -> list[Puzzle]:
@@ -105,7 +122,12 @@ def _word_of(question: Question, options: Options) -> str:
     option."""
     if question.background is None:
         return options.background
-    word = question.background.strip().decode("ascii", "replace")
+    return _believed_or_not(question.background)
+
+
+def _believed_or_not(named: bytes) -> str:
+    """The word of a file that names a background."""
+    word = named.strip().decode("ascii", "replace")
     need(word != _AUTO, "its background must be white or R,G,B")
     try:
         background_named(word)
@@ -155,8 +177,8 @@ def _read_image(data: bytes, word: str) -> Picture:
 def _picture_of_xml(
     drawn: webpbn.Drawn, question: Question, word: str, is_untrusted: bool
 ) -> Picture:
-    """The background and the givens are those that the XML names, unless a file names others. Those
-    of a stranger's count for nothing."""
+    """The background and the givens are those that the XML names, unless a file names others. A
+    stranger's givens count for nothing, and his background is not believed."""
     is_named = question.background is not None
     if drawn.ink is not None:
         need(not is_named and not question.givens, "it has clues only: no background or givens")
@@ -165,7 +187,7 @@ def _picture_of_xml(
         return Picture(drawn.text, drawn.background, "XML", drawn.givens, drawn.title)
     picture = Picture(drawn.text, title=drawn.title, givens=drawn.givens)
     if is_untrusted:
-        named = ("background",) * (drawn.background != WHITE) + ("givens",) * bool(drawn.givens)
-        picture = picture._replace(givens=b"", ignored=tuple(f"{one} in the XML" for one in named))
+        ignored = ("givens in the XML",) * bool(drawn.givens)
+        picture = picture._replace(givens=b"", ignored=ignored, claims=(drawn.background,))
     background = background_named(word)
     return picture._replace(background=background, background_from="named" if is_named else _WHITE)
