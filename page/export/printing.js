@@ -336,7 +336,9 @@ const printPuzzle = () => asSeen(async (seen) => {
   const svgName = make('span');
   const titled = () =>
       ({...own, doc: {...own.doc, about: {...own.doc.about, title: fields.title.value.trim()}}});
-  const ofSeveral = [fields.head, fields.order].map((field) => field.closest('label'));
+  // Where there are no others, nothing is chosen of several.
+  for (const field of [fields.head, fields.order])
+    field.closest('label').hidden = others.part === '';
   const wished = () => {
     const options = readFields(fields);
     return others.chosen().length ? options :
@@ -345,7 +347,6 @@ const printPuzzle = () => asSeen(async (seen) => {
   let [turn, tooMany] = [0, ''];
   const showNotes = async () => {
     const [ownTurn, options, cards] = [++turn, wished(), others.chosen()];
-    for (const row of ofSeveral) row.hidden = !cards.length;
     const count = makersOf(inOrder([own, ...cards], options.order), options).length;
     tooMany =
         count > MOST_SHEETS ? phrase('export.mostSheets', {sheets: count, most: MOST_SHEETS}) : '';

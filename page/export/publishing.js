@@ -78,7 +78,6 @@ const publish = () => asSeen(async (seen) => {
         class: id === (isAmbiguous ? 'fix' : MAIN_WAY) ? 'main' : null,
         'data-way': id,
         title: actions.get(id).hint,
-        disabled: id === 'certificate' && isAmbiguous,
         onclick: (event) => {
           way = id;
           event.target.closest('dialog').close();

@@ -990,6 +990,10 @@ export const DE =
           'export.shareLink': 'Link teilen …',
           'export.shareHolds':
               'Enthält das ganze Rätsel in einer Adresse, zum Lösen oder Bearbeiten, oder als HTML für eine Website.',
+          'export.done': 'Fertig',
+          'export.forSites': 'Für Rätselseiten',
+          'export.forPlayers': 'Für Spieler',
+          'export.asImage': 'Als Bild',
           'export.publish': 'Veröffentlichen',
           'export.done': 'Fertig',
           'export.forSites': 'Für Rätselseiten',

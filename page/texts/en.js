@@ -936,6 +936,10 @@ export const EN = /** @type {const} */ ({
   'export.shareLink': 'Share a link …',
   'export.shareHolds':
       'Puts the whole puzzle into one address, to be solved or edited, or as HTML for a site.',
+  'export.done': 'Done',
+  'export.forSites': 'For puzzle sites',
+  'export.forPlayers': 'For players',
+  'export.asImage': 'As an image',
   'export.publish': 'Publish',
   'export.done': 'Done',
   'export.forSites': 'For puzzle sites',

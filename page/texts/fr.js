@@ -996,6 +996,10 @@ export const FR =
           'export.shareLink': 'Partager un lien …',
           'export.shareHolds':
               'Contient toute la grille dans une adresse, à résoudre ou à modifier, ou en HTML pour un site.',
+          'export.done': 'Terminé',
+          'export.forSites': 'Pour les sites de grilles',
+          'export.forPlayers': 'Pour les joueurs',
+          'export.asImage': 'En image',
           'export.publish': 'Publier',
           'export.done': 'Terminé',
           'export.forSites': 'Pour les sites de grilles',
