@@ -152,7 +152,9 @@ class Names(Case):
         accepted = [
             name for name, row in rows.items() if row.get("certificate", {}).get("accepted")
         ]
-        self.assertEqual(accepted, ["dark.ppm", "small/one.png"])  # the givens are not in certs
+        # Neither the givens nor the background are in certs, and another one is not judged.
+        self.assertEqual(accepted, ["small/one.png"])
+        self.assertEqual(rows["dark.ppm"]["verdict"], "error")
         self.run_audit("pairs", "--certified", status=0)
 
     def files(self, folder):
@@ -555,6 +557,15 @@ class Loop(Case):
         self.assertEqual(next(rows)["verdict"], "unique")
         rows.close()
 
+    def test_who_leaves_the_loop_waits_for_nothing(self):
+        """Each of these puzzles would take all of the time."""
+        before = children(os.getpid())
+        puzzles = [*[("one.ppm", p3(UNIQUE))] * 8, *[("hard.ppm", HARD)] * 200]
+        rows = audit(puzzles, Options(seconds=PATIENCE))
+        self.assertEqual(next(rows)["verdict"], "unique")
+        rows.close()
+        eventually(lambda: set(children(os.getpid())) <= set(before))
+
     def test_certificates_in_a_program(self):
         (answer,) = judge([Question("x.ppm", p3(UNIQUE))], Options(is_certifying=True))
         self.assertEqual(nonobench.check(p3(UNIQUE), answer.files[".cert"]).givens, ())
@@ -705,12 +716,95 @@ class Resume(Case):
         self.assertEqual(sorted(os.listdir(self.folder / "pairs")), [made[0], made[2]])
         self.run_audit("pairs", "--certified", status=0)
 
-    def test_certificates_of_an_earlier_run_are_named(self):
-        self.put("a.ppm", p3(UNIQUE))
-        self.run_audit("site", "--certify", "certs", status=0)
+    def test_a_puzzle_without_one_solution_loses_its_files(self):
+        for name in ("a.ppm", "b.ppm", "gone.ppm"):
+            self.put(name, p3(UNIQUE))
+        words = ["site", "--certify", "certs", "--ppm", "pairs"]
+        self.run_audit(*words, status=0)
         self.put("a.ppm", p3(AMBIGUOUS))
-        said = self.run_audit("site", "--certify", "certs", status=1).stderr
-        self.assertIn("certs/a.ppm.cert: of an earlier run, not made again", said)
+        (self.site / "gone.ppm").unlink()
+        said = self.run_audit(*words, status=1).stderr
+        self.assertEqual(sorted(os.listdir(self.folder / "certs")), ["b.ppm.cert", "gone.ppm.cert"])
+        self.assertIn("certs: 1 files of no puzzle of this run", said)
+        self.assertIn("pairs: 2 files of no puzzle of this run", said)
+        self.assertFalse((self.folder / "pairs" / "a.ppm.ppm").exists())
+
+    def test_files_under_another_name_are_made_again(self):
+        """A new puzzle in front, and all others are renamed."""
+        pictures = [p3(UNIQUE), p3(["ab", ".b"]), p3(["aa", ".b"])]
+        for number, picture in enumerate(pictures):
+            self.put(f"{number}.ppm", picture)
+        words = ["site", "--ppm", "pairs", "--certify", "certs"]
+        self.rows(*words, status=0)
+        for number, picture in enumerate([p3(["bb", "aa"]), *pictures]):
+            self.put(f"{number}.ppm", picture)
+        self.rows(*words, "--resume", status=0)
+        for number, picture in enumerate([p3(["bb", "aa"]), *pictures]):
+            self.assertEqual((self.folder / "pairs" / f"{number}.ppm.ppm").read_bytes(), picture)
+        (self.folder / "certs" / "2.ppm.cert").write_text("")
+        self.marked()
+        self.assertEqual(self.kept(*words, status=0), ["0.ppm", "1.ppm", "3.ppm"])
+
+    def test_rows_stay_until_a_run_ends_well(self):
+        self.put("a.ppm", p3(UNIQUE))
+        self.put("b.ppm", p3(AMBIGUOUS))
+        (self.folder / "empty").mkdir()
+        self.run_audit("site", "--csv", "x.csv", status=1)
+        before = self.rows("site", status=1)
+        for words in (["empty", "--resume"], ["empty", "--csv", "x.csv"]):
+            said = self.run_audit(*words, "--jsonl", "rows.jsonl", status=3).stderr
+            self.assertIn("what was there before is not replaced", said)
+            self.assertEqual(self.read("rows.jsonl"), before)
+        self.assertIn("b.ppm", (self.folder / "x.csv").read_text())
+        for words in (["--html", "x.html"], ["--scheduler", "tcp://x:9999x"]):
+            done = subprocess.run(
+                [sys.executable, "-S", *self.words("site", "--jsonl", "rows.jsonl", *words)[1:]],
+                cwd=self.folder,
+                env=self.env(),
+                capture_output=True,
+                check=False,
+            )
+            self.assertEqual((done.returncode, self.read("rows.jsonl")), (3, before), done.stderr)
+        self.assertEqual(list(self.folder.glob("*.new")), [])
+
+    def test_two_runs_at_once(self):
+        self.put("a.ppm", p3(UNIQUE))
+        self.put("hard.ppm", HARD)
+        outputs = ["--csv", "x.csv", "--jsonl", "x.jsonl", "--sqlite", "x.db", "--certify", "certs"]
+        process = self.start("site", *outputs)
+        path = self.folder / "x.jsonl"
+        eventually(path.exists)
+        for words in zip(outputs[::2], outputs[1::2]):
+            done = self.run_audit("site/a.ppm", *words, "--quiet", status=3)
+            self.assertIn(f"another run writes {words[1]}", done.stderr)
+        process.send_signal(signal.SIGINT)
+        process.communicate(timeout=PATIENCE)
+        self.run_audit("site/a.ppm", *outputs, status=0)
+
+    def test_rows_are_kept_behind_one_that_takes_long(self):
+        self.put("0.ppm", HARD)
+        for number in range(100):
+            self.put(f"1{number:02}.ppm", p3(UNIQUE))
+        outputs = ["--jsonl", "rows.jsonl", "--sqlite", "x.db"]
+        process = self.start("site", *outputs, "--jobs", "2")
+        path = self.folder / "rows.jsonl"
+        eventually(lambda: path.exists() and path.read_bytes().count(b"\n") >= 93)
+        process.kill()
+        process.wait()
+        with sqlite3.connect(self.folder / "x.db") as database:
+            count = database.execute("SELECT count(*) FROM puzzles").fetchone()
+        database.close()
+        self.assertGreaterEqual(count[0], 85)  # the last ones may be on their way
+
+    def test_what_is_no_answer_is_not_kept(self):
+        """The process that judges is killed from outside."""
+        self.put("hard.ppm", HARD)
+        process = self.start("site", "--jsonl", "rows.jsonl", "--jobs", "1")
+        for pid in eventually(lambda: children(process.pid)):
+            os.kill(pid, signal.SIGKILL)
+        process.communicate(timeout=PATIENCE)
+        row = self.read("rows.jsonl")["hard.ppm"]
+        self.assertEqual((row["verdict"], row.get("key")), ("undecided", None))
 
     def test_a_run_that_is_killed(self):
         for number in range(300):
@@ -813,21 +907,41 @@ class Outputs(Case):
         self.assertEqual(row["palette"], "#ffffff #000000")
         self.assertEqual(row["digest"], hashlib.sha256(p3(AMBIGUOUS)).hexdigest())
 
-    def test_outputs_take_their_place_once_they_are_whole(self):
+    def test_outputs_that_are_no_regular_files(self):
         self.put("one.ppm", p3(UNIQUE))
-        (self.folder / "link.csv").symlink_to("elsewhere.csv")
-        for name in ("link.csv", "x.html"):
-            self.run_audit("site", "--csv", "link.csv", "--html", "x.html", status=0)
-            self.assertFalse((self.folder / name).is_symlink())
-        self.assertEqual(list(self.folder.glob("*.new")), [])
+        (self.folder / "link").symlink_to("elsewhere")
+        os.mkfifo(self.folder / "pipe")
+        for option in ("--csv", "--html", "--jsonl", "--sqlite"):
+            for name in ("link", "pipe", "/dev/null"):
+                said = self.run_audit("site", option, name, status=2).stderr
+                self.assertIn(f"{name!r} is no regular file", said)
+        said = self.run_audit("site", "--csv", "a.new", "--html", "a", status=2).stderr
+        self.assertIn("or another output", said)
+
+    def test_a_link_in_the_place_of_a_new_file_is_not_followed(self):
+        self.put("one.ppm", p3(UNIQUE))
+        (self.folder / "mine").write_text("mine")
+        (self.folder / "x.csv.new").symlink_to("mine")
+        self.run_audit("site", "--csv", "x.csv", status=3)
+        self.assertEqual((self.folder / "mine").read_text(), "mine")
+
+    def test_a_name_too_long_for_its_files(self):
+        self.put("n" * 244 + ".ppm", p3(UNIQUE))
+        self.put("o" * 251 + ".ppm", p3(AMBIGUOUS))
+        self.put("z.ppm", p3(UNIQUE))
+        rows = self.rows("site", "--ppm", "pairs", "--certify", "certs", status=1)
+        long, other, z = rows.values()
+        self.assertIn("File name too long", long["error"])
+        self.assertEqual((long["verdict"], long["fit"], "key" in long), ("error", False, False))
+        self.assertEqual((other["verdict"], z["fit"]), ("ambiguous", True))
+        self.assertEqual(sorted(os.listdir(self.folder / "pairs")), ["z.ppm.ppm", "z.ppm.ppm.cert"])
 
     def test_outputs_that_cannot_be_written(self):
         self.put("one.ppm", p3(UNIQUE))
         for words, why in (
-            (["--jsonl", "no/rows"], "no/rows: No such file"),
+            (["--jsonl", "no/rows"], "no/rows.new: No such file"),
             (["--csv", "no/rows"], "no/rows.new: No such file"),
-            (["--sqlite", "no/rows"], "unable to open database file"),
-            (["--jsonl", "/dev/full"], "No space left on device"),
+            (["--sqlite", "no/rows"], "no/rows: No such file"),
             (["--certify", "site/one.ppm/x"], "lies in 'site'"),
         ):
             with self.subTest(words):
@@ -902,6 +1016,9 @@ class Outputs(Case):
         self.assertIn("1 not read, since Pillow is not installed (pip install Pillow)", done.stderr)
         rows = self.read("rows.jsonl")
         self.assertEqual((rows["one.png"]["missing"], rows["two.ppm"]["fit"]), ("Pillow", True))
+        self.assertNotIn("key", rows["one.png"])
+        row = self.rows("site", "--resume", status=0)["one.png"]  # where Pillow is installed
+        self.assertEqual(row["verdict"], "unique")
         done = subprocess.run([*words, "--html", "x.html"], **more)
         self.assertIn("Jinja2, which makes the report, is not installed", done.stderr)
         self.assertEqual(done.returncode, 3)

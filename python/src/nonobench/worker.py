@@ -25,6 +25,8 @@ from ._serve import NO_MEMORY
 _GRACE = 2
 _MOST_ALARM = 2**31 - 1
 _LONGEST = 3600.0  # seconds that the system is asked to wait
+# Why a worker has no answer, if that is by the bounds that it was given.
+OVER_PROCESSOR, OVER_MEMORY = "no answer within its processor time", "not within its memory"
 _NO_PYTHON = "a Worker needs a Python in sys.executable, and not {!r}"
 
 
@@ -167,8 +169,10 @@ class _Process(Child):
             and status == 0
             and time.monotonic() >= self._spent
         ):
-            return TimeoutError("no answer within its processor time")
-        is_python = has_begun or status < 0 or status == NO_MEMORY
+            return TimeoutError(OVER_PROCESSOR)
+        if status == NO_MEMORY:
+            return MemoryError(OVER_MEMORY)
+        is_python = has_begun or status < 0
         return (
             MemoryError("the worker ended")
             if is_python

@@ -125,11 +125,14 @@ def _refuse_outputs(parser: argparse.ArgumentParser, arguments: Arguments) -> No
         path = os.path.realpath(name)
         if not name or (os.path.isdir(path) and name not in folders):
             parser.error(f"{name!r} is no name for an output")
-        if path in seen and name not in folders:
+        is_plain = os.path.isfile(name) and not os.path.islink(name)
+        if os.path.lexists(name) and not is_plain and name not in folders:
+            parser.error(f"{name!r} is no regular file")
+        if seen.intersection((path, f"{path}.new")) and name not in folders:
             parser.error(f"{name!r} is an input, or another output")
         if arguments.folder is not None and _is_within(path, os.path.realpath(arguments.folder)):
             parser.error(f"{name!r} lies in {arguments.folder!r}, which is searched")
-        seen.add(path)
+        seen.update((path, f"{path}.new"))
 
 
 def _is_within(path: str, folder: str) -> bool:

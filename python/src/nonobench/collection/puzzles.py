@@ -67,6 +67,7 @@ class Answer(NamedTuple):
 
     row: Row
     files: dict[str, bytes] = {}
+    is_lasting: bool = True  # it comes from the bytes and the bounds, and would come again
 
 
 def need(is_right: object, why: str) -> None:

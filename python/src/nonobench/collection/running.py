@@ -3,11 +3,12 @@
 from __future__ import annotations
 
 import contextlib
+import errno
 import os
 import signal
 import sqlite3
 import sys
-from collections import deque
+from collections import Counter
 from concurrent.futures import Executor, ThreadPoolExecutor
 from types import FrameType
 from typing import Iterable, Iterator, NoReturn, Optional
@@ -17,13 +18,16 @@ from .._answers import UnreadableError
 from .._library import version
 from . import webpbn
 from .arguments import Arguments, arguments_of, fail, refused_elsewhere, unpack_arguments
-from .asking import Entry, Pack, answers, key_of
-from .finding import Found, Search, bytes_of, question_of
-from .outputs import Database, Lines, Printed, Sink, Spreadsheet, Table, write_file
+from .asking import Entry, Turns, arrivals, digest_of, key_of
+from .finding import Found, Search, bytes_of, question_of, walk
+from .outputs import Database, Lines, Printed, Sink, Spreadsheet, Table, lock, write_file
 from .progress import Progress
 from .puzzles import Answer, Row
 from .rows import printable
 from .tally import FAILED, Tally
+
+
+PPM_ENDINGS = [".ppm", ".ppm.cert", ".ppm.givens", ".ppm.background"]  # of what --ppm writes
 
 
 class Stopped(BaseException):
@@ -100,63 +104,79 @@ class Run:
         self._progress = Progress(self._tally, arguments.is_quiet)
         self._search = Search(arguments.beside, arguments.options.is_untrusted)
         self._shapes: dict[str, str] = {}  # the first file of each
-        self._stale: list[str] = []  # certificates of an earlier run
+        self._made: set[str] = set()  # the files of puzzles
+        self._locks: list[int] = []
+        self._sinks: list[Sink] = []
         self._kept: list[Lines | Database] = []
-        self._sinks = self._make_sinks()
 
-    def _make_sinks(self) -> list[Sink]:
-        arguments, sinks = self._arguments, list[Sink]()
-        if arguments.sqlite is not None:
-            database = Database(arguments.sqlite)
-            sinks.append(database)
-            self._kept += [database] if arguments.is_resumed else []
-        if arguments.jsonl == "-":
-            sinks.append(Printed())
-        elif arguments.jsonl is not None:
-            lines = Lines(arguments.jsonl, arguments.is_resumed)
-            sinks.append(lines)
-            self._kept += [lines] if arguments.is_resumed else []
-        if arguments.csv is not None:
-            sinks.append(Spreadsheet(arguments.csv))
+    def _open(self) -> None:
+        """Begins all outputs, which no other run may write."""
+        arguments = self._arguments
+        for folder in self._folders():
+            os.makedirs(folder, exist_ok=True)
+            self._locks.append(lock(folder))
         if arguments.html is not None:
             from .report import Report
 
-            sinks.append(Report(arguments.html, arguments.title, self._tally))
-        return sinks or [Table()] if not arguments.is_quiet else sinks
+            self._sinks.append(Report(arguments.html, arguments.title, self._tally))
+        if arguments.csv is not None:
+            self._sinks.append(Spreadsheet(arguments.csv))
+        if arguments.sqlite is not None:
+            self._sinks.append(Database(arguments.sqlite))
+        if arguments.jsonl == "-":
+            self._sinks.append(Printed())
+        elif arguments.jsonl is not None:
+            self._sinks.append(Lines(arguments.jsonl, arguments.is_resumed))
+        if arguments.is_resumed:
+            self._kept = [one for one in self._sinks if isinstance(one, (Lines, Database))]
+        if not self._sinks and not arguments.is_quiet:
+            self._sinks.append(Table())
+
+    def _folders(self) -> list[str]:
+        """The folders of what is made of puzzles, each once."""
+        named = (self._arguments.certify, self._arguments.ppm)
+        return list({os.path.realpath(one): one for one in named if one is not None}.values())
 
     def run(self) -> int:
-        """Judges all, and answers the status."""
-        waiting: deque[Pack] = deque()
+        """Judges all, and answers the status. What is there is replaced only by a run that does
+        not fail."""
+        turns = Turns()
         try:
             with self._executor() as executor:
+                self._open()
                 self._progress.begin(self._count())
-                for entry, answer in answers(self._entries(), self._options, executor, waiting):
-                    self._deliver(entry, answer)
+                for come in arrivals(self._entries(), self._options, executor):
+                    rows = [(number, self._keep(entry, answer)) for number, entry, answer in come]
+                    for sink in self._sinks:
+                        sink.flush()
+                    for number, row in rows:
+                        for due in turns.due(number, row):
+                            self._put(due)
             self._tally.skipped.update(self._search.skipped)
+            status = FAILED if self._search.failures else self._tally.status()
             for sink in self._sinks:
-                sink.close()
+                end = sink.discard if status == FAILED else sink.close
+                end()
         except BaseException:
-            self._keep(waiting)
+            self._stop()
             raise
         finally:
             self._progress.close()
-        self._say()
-        return FAILED if self._search.failures else self._tally.status()
+            for handle in self._locks:
+                os.close(handle)
+        self._say(status == FAILED)
+        return status
 
-    def _keep(self, waiting: deque[Pack]) -> None:
-        """Keeps what is done where a run is stopped, and says so."""
-        self._sinks, others = [], self._sinks
-        self._sinks = [sink for sink in others if isinstance(sink, (Lines, Database))]
-        for pack in filter(Pack.is_done, waiting):
-            with contextlib.suppress(Exception):  # the run ends by what was raised before
-                for entry, answer in pack.answers():
-                    self._deliver(entry, answer)
-        for sink in others:
+    def _stop(self) -> None:
+        """Leaves what was there before, with the rows that are kept, and says so."""
+        for sink in self._sinks:
             with contextlib.suppress(OSError, sqlite3.Error):
                 sink.discard()
-        why = f"stopped after {self._tally.total} puzzles"
-        again = "; --resume goes on" if self._sinks else ""
-        print(f"nonobench-audit: {why}{again}", file=sys.stderr)
+        if self._sinks:
+            is_kept = any(isinstance(sink, (Lines, Database)) for sink in self._sinks)
+            why = f"stopped after {self._tally.total} puzzles"
+            again = "; --resume goes on" if is_kept else ""
+            print(f"nonobench-audit: {why}{again}", file=sys.stderr)
 
     @contextlib.contextmanager
     def _executor(self) -> Iterator[Executor]:
@@ -206,8 +226,8 @@ class Run:
             if row is None or row.get("limit", self._options.limit()) != self._options.limit():
                 continue
             row.pop("same_as", None)
-            made = [self._path_of(name, ending) for ending in row.get("files", ())]
-            if all(map(os.path.exists, made)):
+            files = row.get("files", {})
+            if all(self._digest_of(name, ending) == files[ending] for ending in files):
                 return {**row, "file": name}
         return None
 
@@ -216,44 +236,83 @@ class Run:
         folder = self._arguments.certify if ending == ".cert" else self._arguments.ppm
         return os.path.join(folder or "", name + ending)
 
-    def _write(self, name: str, files: dict[str, bytes]) -> None:
-        """Writes what was made of a puzzle. What an earlier run wrote beside its picture goes."""
-        for ending, data in files.items():
-            write_file(self._path_of(name, ending), data)
-        for ending in {".ppm.givens", ".ppm.background"} - files.keys() if ".ppm" in files else ():
-            with contextlib.suppress(FileNotFoundError):
-                os.unlink(self._path_of(name, ending))
+    def _digest_of(self, name: str, ending: str) -> Optional[str]:
+        try:
+            return digest_of(bytes_of(self._path_of(name, ending)))
+        except UnreadableError:
+            return None
 
-    def _deliver(self, entry: Entry, answer: Answer) -> None:
-        """Writes what was made, and then the row."""
+    def _write(self, name: str, files: dict[str, bytes], kept: Iterable[str]) -> None:
+        """Writes what was made of a puzzle. What is there of it besides goes, but for what is
+        kept."""
+        for ending in self._endings():
+            path = self._path_of(name, ending)
+            if ending in files:
+                write_file(path, files[ending])
+            elif ending not in kept and (os.path.isfile(path) or os.path.islink(path)):
+                os.unlink(path)
+        made = [self._path_of(name, ending) for ending in kept]
+        self._made.update(map(os.path.normpath, made))
+
+    def _endings(self) -> list[str]:
+        made = [".cert"] if self._arguments.certify is not None else []
+        return made + (PPM_ENDINGS if self._arguments.ppm is not None else [])
+
+    def _keep(self, entry: Entry, answer: Answer) -> Row:
+        """Writes what was made, and then the row. A full disk ends the run; what else cannot be
+        written is the puzzle's error."""
         row = answer.row
-        self._write(row["file"], answer.files)
-        if "files" not in row:
-            folders = {".cert": self._arguments.certify, ".ppm.cert": self._arguments.ppm}
-            made = [self._path_of(row["file"], end) for end, to in folders.items() if to]
-            self._stale += filter(os.path.exists, made)
-        if entry.key:
+        if entry.key and answer.is_lasting:
             row["key"] = entry.key
+        try:
+            self._write(row["file"], answer.files, row.get("files", {}).keys())
+        except OSError as error:
+            if error.errno in (errno.ENOSPC, errno.EDQUOT):
+                raise
+            why = f"{error.filename2 or error.filename}: {error.strerror}"
+            row = {"file": row["file"], "verdict": "error", "fit": False, "error": why}
+            row["tool"] = f"nonobench {version()}"
+            with contextlib.suppress(OSError):
+                self._write(row["file"], {}, ())
+        self._tally.put(row)
+        for sink in self._sinks:
+            sink.keep(row)
+        self._progress.step()
+        return row
+
+    def _put(self, row: Row) -> None:
+        """Writes a row in its turn."""
         shape = row.get("shape")
         if shape is not None and self._shapes.setdefault(shape, row["file"]) != row["file"]:
             row["same_as"] = self._shapes[shape]
-        self._tally.put(row)
+            self._tally.same += 1
         for sink in self._sinks:
             sink.put(row)
-        self._progress.step()
 
-    def _say(self) -> None:
+    def _others(self) -> Iterator[str]:
+        """What lies in the folders of this run and is not of its puzzles."""
+        for folder in self._folders():
+            paths = [
+                os.path.normpath(os.path.join(folder, below, name))
+                for below, names in walk(folder, Counter(), [])
+                for name in names
+            ]
+            count = sum(path not in self._made for path in paths)
+            if count:
+                yield f"{printable(folder)}: {count} files of no puzzle of this run"
+
+    def _say(self, is_failed: bool) -> None:
         """The last lines: what was judged, and what went wrong."""
         lines = [_words_of(error) for error in self._search.failures]
         lines += [
             f"{count} not read, since {library} is not installed (pip install {library})"
             for library, count in sorted(self._tally.missing.items())
         ]
-        if self._stale:
-            more = f" and {len(self._stale) - 1} more" if self._stale[1:] else ""
-            lines.append(f"{printable(self._stale[0])}{more}: of an earlier run, not made again")
+        lines += self._others()
         if not self._tally.total:
             lines.append("there are no puzzles")
+        if lines and self._arguments.outputs() and is_failed:
+            lines.append("the run failed, so what was there before is not replaced")
         for line in lines:
             print(f"nonobench-audit: {line}", file=sys.stderr)
         if self._arguments.is_quiet:

@@ -30,7 +30,6 @@ class Tally:
         self.fitness[fitness_of(row)] += 1
         self.verdicts[row["verdict"]] += 1
         self.flaws.update(flaws_of(row, self.allowed))
-        self.same += "same_as" in row
         self.grades.update(row[name] for name in ("grade",) if name in row)
         self.missing.update(row[name] for name in ("missing",) if name in row)
 
