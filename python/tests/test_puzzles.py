@@ -10,7 +10,17 @@ import unittest
 from pathlib import Path
 
 sys.path.insert(0, str(Path(__file__).resolve().parent))
-from audit_parts import AMBIGUOUS, BLACK, RED, ROOT, UNIQUE, WHITE, image, p3, webpbn  # noqa: E402
+from audit_parts import (
+    AMBIGUOUS,
+    BLACK,
+    RED,
+    ROOT,
+    UNIQUE,
+    WHITE,
+    image,
+    p3,
+    webpbn,
+)  # noqa: E402
 
 from PIL.PngImagePlugin import PngInfo  # noqa: E402
 
@@ -55,7 +65,9 @@ class Puzzles(unittest.TestCase):
         png = self.one(image("PNG"))
         self.assertEqual((cells_of(png), png[1:]), (cells, (WHITE, (), "")))
         # No cell is white, and the corners agree.
-        dark = self.one(image("PNG", pixels=[BLACK] * 4 + [RED] + [BLACK] * 4, size=(3, 3)))
+        dark = self.one(
+            image("PNG", pixels=[BLACK] * 4 + [RED] + [BLACK] * 4, size=(3, 3))
+        )
         self.assertEqual(dark.background, BLACK)
         grey = self.one(b"P2 2 1 255 0 255")
         self.assertEqual((cells_of(grey), grey.background), ([BLACK, WHITE], WHITE))
@@ -72,7 +84,9 @@ class Puzzles(unittest.TestCase):
         puzzle = self.one(webpbn(AMBIGUOUS, "A &lt;b&gt; title", SAVED).encode())
         self.assertEqual(cells_of(puzzle), [BLACK, WHITE, WHITE, BLACK])
         self.assertEqual(puzzle[1:], (WHITE, (Given(1, 1),), "A <b> title"))
-        several = f"<puzzleset>{webpbn(UNIQUE, 'One')}{webpbn(UNIQUE, 'Two')}</puzzleset>"
+        several = (
+            f"<puzzleset>{webpbn(UNIQUE, 'One')}{webpbn(UNIQUE, 'Two')}</puzzleset>"
+        )
         titles = [one.title for one in nonobench.puzzles_of(several.encode())]
         self.assertEqual(titles, ["One", "Two"])
         # Clues alone, in two colours.
@@ -133,7 +147,9 @@ class Puzzles(unittest.TestCase):
                 stdout=subprocess.PIPE,
                 check=True,
             )
-            self.assertTrue(done.stdout.decode().startswith(f"{library}, is not installed"))
+            self.assertTrue(
+                done.stdout.decode().startswith(f"{library}, is not installed")
+            )
 
 
 class NonTexts(unittest.TestCase):
@@ -148,7 +164,12 @@ class NonTexts(unittest.TestCase):
         self.assertEqual(nonobench.certify(ROW), b"nonocert 1\nline r 1\ndone\n")
         self.assertEqual(nonobench.audit(CLUES).verdict.ruling, Ruling.AMBIGUOUS)
         self.assertTrue(nonobench.assess(GOAL, published=[(1, 1)]).is_fit)
-        for call in (nonobench.clues, nonobench.verdict, nonobench.certify, nonobench.assess):
+        for call in (
+            nonobench.clues,
+            nonobench.verdict,
+            nonobench.certify,
+            nonobench.assess,
+        ):
             with self.assertRaisesRegex(ValueError, "^background goes with a P3 text$"):
                 call(GOAL, background=BLACK)
         # A word says which it is.
@@ -156,19 +177,25 @@ class NonTexts(unittest.TestCase):
             nonobench.assess(GOAL, non=False)
         with self.assertRaisesRegex(nonobench.PictureError, "^non MissingSize$"):
             nonobench.assess(p3(UNIQUE), non=True)
-        with self.assertRaisesRegex(nonobench.PictureError, "^ppm BadNumber at byte 3$"):
+        with self.assertRaisesRegex(
+            nonobench.PictureError, "^ppm BadNumber at byte 3$"
+        ):
             nonobench.verdict(b"P3\nrows\n")
 
     def test_an_audit(self):
         """Without an ending in its name, too; an image stays one."""
         for name in ("from a database", "x.non", "x.ppm"):
             row = judge([Question(name, CLUES)])[0].row
-            self.assertEqual((row["verdict"], row["background"]), ("ambiguous", "ffffff"))
+            self.assertEqual(
+                (row["verdict"], row["background"]), ("ambiguous", "ffffff")
+            )
         words = PngInfo()
         words.add_text("Comment", "a\ntitle b\n")
         row = judge([Question("x", image("PNG", pnginfo=words))])[0].row
         self.assertEqual(row["verdict"], "unique")
-        self.assertIn("non MissingSize", judge([Question("x.non", b"junk")])[0].row["error"])
+        self.assertIn(
+            "non MissingSize", judge([Question("x.non", b"junk")])[0].row["error"]
+        )
 
 
 if __name__ == "__main__":

@@ -36,12 +36,18 @@ class Reading(Case):
     def shown(self, text):
         """Picture, palette and what tells the background."""
         row = row_of(text)
-        return row.get("error") or (row["picture"], row["palette"], row["background_from"])
+        return row.get("error") or (
+            row["picture"],
+            row["palette"],
+            row["background_from"],
+        )
 
     def test_goals(self):
         wanted = ("a./.b", ["ffffff", "000000", "ff0000"], "XML")
         self.assertEqual(self.shown(webpbn(UNIQUE)), wanted)
-        self.assertEqual(row_of(webpbn(UNIQUE, "A &lt;b&gt; title"))["title"], "A <b> title")
+        self.assertEqual(
+            row_of(webpbn(UNIQUE, "A &lt;b&gt; title"))["title"], "A <b> title"
+        )
         # One goal twice, beside a solution that is none.
         goal = "<solution><image>|X.||.r|</image></solution>"
         other = '<solution type="solution"><image>|.X||r.|</image></solution>'
@@ -70,10 +76,17 @@ class Reading(Case):
         # Two that are declared alike stay two, as near as they can be.
         colours = "".join(
             f'<color name="{name}" char="{name}">{triple}</color>'
-            for name, triple in (("a", "100000"), ("b", "100001"), ("c", "100000"), ("d", "100000"))
+            for name, triple in (
+                ("a", "100000"),
+                ("b", "100001"),
+                ("c", "100000"),
+                ("d", "100000"),
+            )
         )
         text = f"<puzzle>{colours}<solution><image>|abcd|</image></solution></puzzle>"
-        self.assertEqual(self.shown(text)[1], ["ffffff", "100000", "100001", "100002", "100003"])
+        self.assertEqual(
+            self.shown(text)[1], ["ffffff", "100000", "100001", "100002", "100003"]
+        )
 
     def test_clues_only(self):
         clues = (
@@ -84,11 +97,16 @@ class Reading(Case):
             self.shown(f"<puzzle>{clues}</puzzle>"), ("a.", ["ffffff", "000000"], "XML")
         )
         white = 'backgroundcolor="black" defaultcolor="white"'
-        self.assertEqual(self.shown(f"<puzzle {white}>{clues}</puzzle>")[1], ["000000", "ffffff"])
-        two = clues.replace(
-            "<count>1</count></line></clues>", '<count color="red">1</count></line></clues>'
+        self.assertEqual(
+            self.shown(f"<puzzle {white}>{clues}</puzzle>")[1], ["000000", "ffffff"]
         )
-        self.assertRegex(self.shown(f"<puzzle>{two}</puzzle>"), "several colours and no solution")
+        two = clues.replace(
+            "<count>1</count></line></clues>",
+            '<count color="red">1</count></line></clues>',
+        )
+        self.assertRegex(
+            self.shown(f"<puzzle>{two}</puzzle>"), "several colours and no solution"
+        )
         given = f"<puzzle>{clues}{SAVED.format('givens', '?')}</puzzle>"
         self.assertEqual(self.shown(given), "the puzzle has givens and no solution")
         for part in ({"givens": b"given 1 1\n"}, {"background": b"white"}):
@@ -99,7 +117,9 @@ class Reading(Case):
 
     def test_backgrounds_that_are_named(self):
         row = row_of(webpbn(UNIQUE), background=b"255,0,0")
-        self.assertEqual((row["background"], row["background_from"]), ("ff0000", "named"))
+        self.assertEqual(
+            (row["background"], row["background_from"]), ("ff0000", "named")
+        )
 
     def test_as_the_page_writes_it(self):
         # Two colours, a black given, and clues.
@@ -129,24 +149,41 @@ class Reading(Case):
             for axis in ("rows", "columns")
         )
         for text, why in (
-            (webpbn(UNIQUE, more=CLUE), "the clues of the rows are not those of the solution"),
+            (
+                webpbn(UNIQUE, more=CLUE),
+                "the clues of the rows are not those of the solution",
+            ),
             (webpbn(UNIQUE, kind="triddler"), "of the type triddler"),
-            (webpbn(UNIQUE).replace("f00", "red"), "not three or six hexadecimal digits"),
+            (
+                webpbn(UNIQUE).replace("f00", "red"),
+                "not three or six hexadecimal digits",
+            ),
             (webpbn(UNIQUE).replace("|X.|", "|X?|"), "'\\?', which is not a colour"),
             (webpbn(UNIQUE).replace("|X.|", "|X.."), "is not between bars"),
             (webpbn(UNIQUE).replace("|X.|", "|\n.|"), "is not between bars"),
             (webpbn(UNIQUE).replace("|X.|", "|X|"), "several lengths"),
             (webpbn(["." * 121]), "larger than 120 by 120"),
-            (webpbn(UNIQUE).replace('<puzzle type="grid"', blue), "background of the puzzle"),
+            (
+                webpbn(UNIQUE).replace('<puzzle type="grid"', blue),
+                "background of the puzzle",
+            ),
             (
                 webpbn(UNIQUE).replace("</color>", two),
                 "two colours of the puzzle have the sign 'r'",
             ),
             ("<puzzle/>", "neither a solution nor all clues"),
             (f"{same}{clues}</puzzle>", "clues in the colour of its background"),
-            (f'<puzzle defaultcolor="ink">{clues}</puzzle>', "in a colour that it does not have"),
+            (
+                f'<puzzle defaultcolor="ink">{clues}</puzzle>',
+                "in a colour that it does not have",
+            ),
             (webpbn(UNIQUE, more=OTHER_GOAL), SEVERAL),
-            (webpbn(UNIQUE).replace('"goal"', '"solution"').replace("</puzzle>", second), SEVERAL),
+            (
+                webpbn(UNIQUE)
+                .replace('"goal"', '"solution"')
+                .replace("</puzzle>", second),
+                SEVERAL,
+            ),
             (
                 webpbn(UNIQUE).replace('char="r"', 'char="?"').replace("r|", "?|"),
                 "has the sign '\\?', which stands for a cell of any colour",
@@ -160,7 +197,10 @@ class Reading(Case):
                 webpbn(UNIQUE).replace("<image>", "<image>|.X||r.|</image><image>"),
                 "the puzzle has the image of a solution twice",
             ),
-            (webpbn(UNIQUE, more=OWN + CLUE), "the puzzle has the clues of the rows twice"),
+            (
+                webpbn(UNIQUE, more=OWN + CLUE),
+                "the puzzle has the clues of the rows twice",
+            ),
             (
                 webpbn(UNIQUE, more=SAVED.format("givens", "?") * 2),
                 "the puzzle has its givens twice",
@@ -179,7 +219,9 @@ class Texts(Case):
             "<solution{}><image>{}</image></solution>".format(*words)
             for words in ((" xmlns='x'", "|X.||.X|"), ("", "|XX||.X|"))
         )
-        laughs = "".join(f'<!ENTITY a{at} "{f"&a{at - 1};" * 10}">' for at in range(1, 10))
+        laughs = "".join(
+            f'<!ENTITY a{at} "{f"&a{at - 1};" * 10}">' for at in range(1, 10)
+        )
         own = "the XML has declarations of its own"
         for text, why in (
             (typed + webpbn(UNIQUE), ""),
@@ -187,12 +229,19 @@ class Texts(Case):
             (f"<puzzleset>{webpbn(UNIQUE)}</puzzleset>", ""),
             ("<html/>", "the XML has no puzzle"),
             ("<svg/>", "this is SVG: convert it to PNG"),
-            ("<svg xmlns='http://www.w3.org/2000/svg'/>", "this is SVG: convert it to PNG"),
+            (
+                "<svg xmlns='http://www.w3.org/2000/svg'/>",
+                "this is SVG: convert it to PNG",
+            ),
             ("<puzzle>", "the XML cannot be read"),
             (webpbn(UNIQUE).encode("utf-16"), "it is UTF-16: save it as UTF-8"),
             (webpbn(UNIQUE, "\xe9").encode("latin-1"), "the XML is not UTF-8"),
             (f'<!DOCTYPE a [<!ENTITY a "ha">{laughs}]>' + webpbn(UNIQUE, "&a9;"), own),
-            ('<!DOCTYPE a [<!ENTITY a SYSTEM "file:///etc/passwd">]>' + webpbn(UNIQUE, "&a;"), own),
+            (
+                '<!DOCTYPE a [<!ENTITY a SYSTEM "file:///etc/passwd">]>'
+                + webpbn(UNIQUE, "&a;"),
+                own,
+            ),
             ('<!DOCTYPE a [<!ATTLIST a b CDATA "c">]>' + webpbn(UNIQUE), own),
             (
                 f'<!DOCTYPE a SYSTEM "b>{webpbn(AMBIGUOUS, kind="").replace(chr(34), chr(39))}">',
@@ -208,7 +257,9 @@ class Texts(Case):
             ),
         ):
             with self.subTest(text[:60]):
-                self.assertRegex(row_of(text).get("error", ""), f"^{why}" if why else "^$")
+                self.assertRegex(
+                    row_of(text).get("error", ""), f"^{why}" if why else "^$"
+                )
 
     def test_a_set(self):
         puzzles = [
@@ -224,7 +275,9 @@ class Texts(Case):
         self.assertEqual(done.stdout, "3 puzzles in out\n")
         rows = self.rows("out", status=1)
         self.assertEqual(list(rows), ["set-1.xml", "set-2.xml", "set-3.xml"])
-        self.assertEqual([row.get("title") for row in rows.values()], ["One", "Two \xe9", None])
+        self.assertEqual(
+            [row.get("title") for row in rows.values()], ["One", "Two \xe9", None]
+        )
         self.assertEqual([row["fit"] for row in rows.values()], [True, True, False])
         self.assertEqual(rows["set-2.xml"]["givens"], [[1, 1]])
         self.run_audit("unpack", "site/set.xml", "out", status=2)
@@ -238,7 +291,8 @@ class Texts(Case):
             mark = row_of(text.encode("utf-8-sig"), name)["error"]
             self.assertEqual(mark, "it begins with a byte order mark: save it without")
             self.assertEqual(
-                row_of(text.encode("utf-16"), name)["error"], "it is UTF-16: save it as UTF-8"
+                row_of(text.encode("utf-16"), name)["error"],
+                "it is UTF-16: save it as UTF-8",
             )
 
     def test_non(self):
@@ -249,6 +303,8 @@ class Texts(Case):
         self.assertEqual((row["verdict"], row["picture"]), ("unique", "a./.a"))
         self.assertIn("NoGoal", row_of(clues, "x.non", givens=b"given 1 1\n")["error"])
         row = row_of(clues, "x.non", background=b"0,0,0")
-        self.assertEqual(row["error"], "its background is white, as of each .non puzzle")
+        self.assertEqual(
+            row["error"], "its background is white, as of each .non puzzle"
+        )
         none = row_of("width 1\nheight 1\nrows\n1\ncolumns\n0\n", "x.non")
         self.assertEqual((none["verdict"], none["fit"]), ("error", False))

@@ -19,7 +19,11 @@ class NonobenchError(ValueError):
     """
 
     def __init__(
-        self, name: str, text: str, byte: Optional[int] = None, line: Optional[int] = None
+        self,
+        name: str,
+        text: str,
+        byte: Optional[int] = None,
+        line: Optional[int] = None,
     ) -> None:
         super().__init__(name, text, byte, line)
         self.name = name
@@ -225,7 +229,9 @@ class Assessment:
     flaws: tuple[Flaw, ...]
     is_fit: bool
     text: str
-    named: tuple[Given, ...] = ()  # the givens that the certificate names, where one is passed
+    named: tuple[
+        Given, ...
+    ] = ()  # the givens that the certificate names, where one is passed
 
 
 FLAW_KINDS = ("blank", "background", "given", "alike", "any")
@@ -234,7 +240,11 @@ FLAW_KINDS = ("blank", "background", "given", "alike", "any")
 def refused_flaws(flaws: Iterable[str], kinds: Iterable[str]) -> list[str]:
     """The flaws, by their words, that somebody refuses who allows some kinds."""
     allowed = {*kinds}
-    return [] if "any" in allowed else [flaw for flaw in flaws if flaw.split(" ")[0] not in allowed]
+    return (
+        []
+        if "any" in allowed
+        else [flaw for flaw in flaws if flaw.split(" ")[0] not in allowed]
+    )
 
 
 class Puzzle(NamedTuple):

@@ -95,9 +95,14 @@ def _refuse(parser: argparse.ArgumentParser, arguments: Arguments) -> None:
         if not os.path.lexists(path):
             parser.error(f"no such file or folder: {path!r}")
         _refuse_paths_elsewhere(parser, arguments, path)
-    if arguments.is_resumed and not (arguments.sqlite or arguments.jsonl not in (None, "-")):
+    if arguments.is_resumed and not (
+        arguments.sqlite or arguments.jsonl not in (None, "-")
+    ):
         parser.error("--resume goes with --jsonl FILE or --sqlite FILE")
-    if [arguments.jsonl, arguments.csv].count("-") > 1 or "-" in (arguments.html, arguments.sqlite):
+    if [arguments.jsonl, arguments.csv].count("-") > 1 or "-" in (
+        arguments.html,
+        arguments.sqlite,
+    ):
         parser.error("standard output has room for one: --jsonl - or --csv -")
     if arguments.options.is_certified and (arguments.certify or arguments.ppm):
         parser.error("--certified makes no certificates")
@@ -114,7 +119,9 @@ def _refuse_paths_elsewhere(
 ) -> None:
     has_folder = arguments.beside or arguments.certify or arguments.ppm
     if has_folder and refused_elsewhere(path):
-        parser.error(f"{path!r} has no place below the folder of --beside, --certify or --ppm")
+        parser.error(
+            f"{path!r} has no place below the folder of --beside, --certify or --ppm"
+        )
 
 
 def _refuse_outputs(parser: argparse.ArgumentParser, arguments: Arguments) -> None:
@@ -130,7 +137,9 @@ def _refuse_outputs(parser: argparse.ArgumentParser, arguments: Arguments) -> No
             parser.error(f"{name!r} is no regular file")
         if seen.intersection((path, f"{path}.new")) and name not in folders:
             parser.error(f"{name!r} is an input, or another output")
-        if arguments.folder is not None and _is_within(path, os.path.realpath(arguments.folder)):
+        if arguments.folder is not None and _is_within(
+            path, os.path.realpath(arguments.folder)
+        ):
             parser.error(f"{name!r} lies in {arguments.folder!r}, which is searched")
         seen.update((path, f"{path}.new"))
 
@@ -151,10 +160,16 @@ def _parser() -> argparse.ArgumentParser:
         formatter_class=argparse.RawDescriptionHelpFormatter,
         allow_abbrev=False,
     )
-    parser.add_argument("paths", metavar="PATH", nargs="*", help="a folder to search, or files")
-    parser.add_argument("--version", action="version", version=f"nonobench-audit {version()}")
+    parser.add_argument(
+        "paths", metavar="PATH", nargs="*", help="a folder to search, or files"
+    )
+    parser.add_argument(
+        "--version", action="version", version=f"nonobench-audit {version()}"
+    )
     _add_inputs(parser.add_argument_group("what is read"))
-    _add_outputs(parser.add_argument_group("output (without a file, a table on standard output)"))
+    _add_outputs(
+        parser.add_argument_group("output (without a file, a table on standard output)")
+    )
     _add_bounds(parser.add_argument_group("bounds"))
     return parser
 
@@ -208,24 +223,51 @@ def _add_inputs(group: argparse._ArgumentGroup) -> None:
 
 def _add_outputs(group: argparse._ArgumentGroup) -> None:
     add = group.add_argument
-    add("--jsonl", metavar="FILE", help="a line of JSON for each puzzle; - is standard output")
+    add(
+        "--jsonl",
+        metavar="FILE",
+        help="a line of JSON for each puzzle; - is standard output",
+    )
     add("--csv", metavar="FILE", help="for spreadsheets; - is standard output")
-    add("--html", metavar="FILE", help="a report to look at, in one file that needs no network")
-    add("--title", metavar="TEXT", type=_title, default="Puzzles", help="title of the report")
-    add("--sqlite", metavar="FILE", help="a database with a table that has a row for each file")
+    add(
+        "--html",
+        metavar="FILE",
+        help="a report to look at, in one file that needs no network",
+    )
+    add(
+        "--title",
+        metavar="TEXT",
+        type=_title,
+        default="Puzzles",
+        help="title of the report",
+    )
+    add(
+        "--sqlite",
+        metavar="FILE",
+        help="a database with a table that has a row for each file",
+    )
     add(
         "--resume",
         action="store_true",
         dest="is_resumed",
         help="keep the rows of --jsonl or --sqlite whose puzzles have not changed",
     )
-    add("--certify", metavar="DIR", help="write x.png.cert for each puzzle with one solution")
+    add(
+        "--certify",
+        metavar="DIR",
+        help="write x.png.cert for each puzzle with one solution",
+    )
     add(
         "--ppm",
         metavar="DIR",
         help="write x.png.ppm for each, with its certificate, givens and background",
     )
-    add("--quiet", action="store_true", dest="is_quiet", help="print neither table nor progress")
+    add(
+        "--quiet",
+        action="store_true",
+        dest="is_quiet",
+        help="print neither table nor progress",
+    )
 
 
 def _add_bounds(group: argparse._ArgumentGroup) -> None:
@@ -303,7 +345,9 @@ def unpack_arguments(words: list[str]) -> tuple[str, str]:
         description="Writes a file for each puzzle of an XML set, with its title and givens.",
     )
     parser.add_argument("set", metavar="SET.xml")
-    parser.add_argument("folder", metavar="DIR", help="is made; what lies there must be no puzzle")
+    parser.add_argument(
+        "folder", metavar="DIR", help="is made; what lies there must be no puzzle"
+    )
     found = parser.parse_args(words)
     if os.path.isdir(found.folder) and os.listdir(found.folder):
         parser.error(f"{found.folder!r} is not empty")

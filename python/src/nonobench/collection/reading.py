@@ -40,7 +40,9 @@ class Picture(NamedTuple):
     is_non: bool = False
     ink: Colour = BLACK  # of a .non text
     ignored: tuple[str, ...] = ()  # what its XML names and is not believed
-    claims: tuple[Optional[Colour], ...] = ()  # backgrounds that are named and not believed
+    claims: tuple[
+        Optional[Colour], ...
+    ] = ()  # backgrounds that are named and not believed
 
 
 def background_named(word: str) -> Optional[Colour]:
@@ -78,10 +80,15 @@ def need_claims(picture: Picture) -> None:
     judged = picture.background or white
     for claim in picture.claims:
         named = colour_word(claim or white).decode("ascii")
-        need((claim or white) == judged, f"its background {named} is not believed: name it")
+        need(
+            (claim or white) == judged,
+            f"its background {named} is not believed: name it",
+        )
 
 
-def puzzles_of(data: bytes, background: Optional[Colour], asked: Questions) -> list[Puzzle]:
+def puzzles_of(
+    data: bytes, background: Optional[Colour], asked: Questions
+) -> list[Puzzle]:
     """The puzzles of a file, whatever it is, with the background and the givens that it names."""
     named = None if background is None else colour_word(background)
     question = Question("", data, background=named)
@@ -165,8 +172,14 @@ def _read_image(data: bytes, word: str) -> Picture:
         if word == _AUTO and pixels.is_png:
             background, why = _images.auto_background(pixels)
         else:
-            background, why = (named or (pixels.maxval,) * 3, "named" if word != _AUTO else _WHITE)
-        need(max(background) <= pixels.maxval, "its background is above the picture's samples")
+            background, why = (
+                named or (pixels.maxval,) * 3,
+                "named" if word != _AUTO else _WHITE,
+            )
+        need(
+            max(background) <= pixels.maxval,
+            "its background is above the picture's samples",
+        )
         few = len({background, *pixels.cells} - {None}) <= MOST_COLOURS
         need(few, f"more than {MOST_COLOURS} colours with the background")
         return Picture(pixels.picture(background), background, why)
@@ -181,13 +194,22 @@ def _picture_of_xml(
     stranger's givens count for nothing, and his background is not believed."""
     is_named = question.background is not None
     if drawn.ink is not None:
-        need(not is_named and not question.givens, "it has clues only: no background or givens")
-        return Picture(drawn.text, drawn.background, "XML", b"", drawn.title, True, drawn.ink)
+        need(
+            not is_named and not question.givens,
+            "it has clues only: no background or givens",
+        )
+        return Picture(
+            drawn.text, drawn.background, "XML", b"", drawn.title, True, drawn.ink
+        )
     if not is_untrusted and not is_named:
         return Picture(drawn.text, drawn.background, "XML", drawn.givens, drawn.title)
     picture = Picture(drawn.text, title=drawn.title, givens=drawn.givens)
     if is_untrusted:
         ignored = ("givens in the XML",) * bool(drawn.givens)
-        picture = picture._replace(givens=b"", ignored=ignored, claims=(drawn.background,))
+        picture = picture._replace(
+            givens=b"", ignored=ignored, claims=(drawn.background,)
+        )
     background = background_named(word)
-    return picture._replace(background=background, background_from="named" if is_named else _WHITE)
+    return picture._replace(
+        background=background, background_from="named" if is_named else _WHITE
+    )

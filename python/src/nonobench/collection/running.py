@@ -17,17 +17,37 @@ from .. import _loading
 from .._answers import UnreadableError
 from .._library import version
 from . import webpbn
-from .arguments import Arguments, arguments_of, fail, refused_elsewhere, unpack_arguments
+from .arguments import (
+    Arguments,
+    arguments_of,
+    fail,
+    refused_elsewhere,
+    unpack_arguments,
+)
 from .asking import Entry, Turns, arrivals, digest_of, key_of
 from .finding import Found, Search, bytes_of, question_of, walk
-from .outputs import Database, Lines, Printed, Sink, Spreadsheet, Table, lock, write_file
+from .outputs import (
+    Database,
+    Lines,
+    Printed,
+    Sink,
+    Spreadsheet,
+    Table,
+    lock,
+    write_file,
+)
 from .progress import Progress
 from .puzzles import Answer, Row
 from .rows import printable
 from .tally import FAILED, Tally
 
 
-PPM_ENDINGS = [".ppm", ".ppm.cert", ".ppm.givens", ".ppm.background"]  # of what --ppm writes
+PPM_ENDINGS = [
+    ".ppm",
+    ".ppm.cert",
+    ".ppm.givens",
+    ".ppm.background",
+]  # of what --ppm writes
 
 
 class Stopped(BaseException):
@@ -46,7 +66,11 @@ def main(words: Optional[list[str]] = None) -> int:
         if signal.getsignal(number) != signal.SIG_IGN:
             signal.signal(number, _stop)
     try:
-        return unpack(*unpack_arguments(words[1:])) if words[:1] == ["unpack"] else _run(words)
+        return (
+            unpack(*unpack_arguments(words[1:]))
+            if words[:1] == ["unpack"]
+            else _run(words)
+        )
     except Stopped as stop:
         _leave(stop.status)
 
@@ -81,7 +105,13 @@ def unpack(name: str, folder: str) -> int:
 def _run(words: list[str]) -> int:
     try:
         return Run(arguments_of(words)).run()
-    except (OSError, sqlite3.Error, ImportError, RuntimeError, UnreadableError) as error:
+    except (
+        OSError,
+        sqlite3.Error,
+        ImportError,
+        RuntimeError,
+        UnreadableError,
+    ) as error:
         print(f"nonobench-audit: {_words_of(error)}", file=sys.stderr)
         _leave(FAILED)
 
@@ -128,14 +158,18 @@ class Run:
         elif arguments.jsonl is not None:
             self._sinks.append(Lines(arguments.jsonl, arguments.is_resumed))
         if arguments.is_resumed:
-            self._kept = [one for one in self._sinks if isinstance(one, (Lines, Database))]
+            self._kept = [
+                one for one in self._sinks if isinstance(one, (Lines, Database))
+            ]
         if not self._sinks and not arguments.is_quiet:
             self._sinks.append(Table())
 
     def _folders(self) -> list[str]:
         """The folders of what is made of puzzles, each once."""
         named = (self._arguments.certify, self._arguments.ppm)
-        return list({os.path.realpath(one): one for one in named if one is not None}.values())
+        return list(
+            {os.path.realpath(one): one for one in named if one is not None}.values()
+        )
 
     def run(self) -> int:
         """Judges all, and answers the status. What is there is replaced only by a run that does
@@ -146,7 +180,10 @@ class Run:
                 self._open()
                 self._progress.begin(self._count())
                 for come in arrivals(self._entries(), self._options, executor):
-                    rows = [(number, self._keep(entry, answer)) for number, entry, answer in come]
+                    rows = [
+                        (number, self._keep(entry, answer))
+                        for number, entry, answer in come
+                    ]
                     for sink in self._sinks:
                         sink.flush()
                     for number, row in rows:
@@ -212,7 +249,10 @@ class Run:
                 question = question_of(found)
             except UnreadableError as error:
                 said: Row = {"file": found.name, "verdict": "error", "fit": False}
-                yield Entry(None, {**said, "error": str(error), "tool": f"nonobench {version()}"})
+                yield Entry(
+                    None,
+                    {**said, "error": str(error), "tool": f"nonobench {version()}"},
+                )
                 continue
             key = key_of(question, self._options)
             row = self._row_kept(question.name, key)
@@ -223,7 +263,10 @@ class Run:
         is not to be tried with other bounds."""
         for kept in self._kept:
             row = kept.kept(key)
-            if row is None or row.get("limit", self._options.limit()) != self._options.limit():
+            if (
+                row is None
+                or row.get("limit", self._options.limit()) != self._options.limit()
+            ):
                 continue
             row.pop("same_as", None)
             files = row.get("files", {})
@@ -283,7 +326,10 @@ class Run:
     def _put(self, row: Row) -> None:
         """Writes a row in its turn."""
         shape = row.get("shape")
-        if shape is not None and self._shapes.setdefault(shape, row["file"]) != row["file"]:
+        if (
+            shape is not None
+            and self._shapes.setdefault(shape, row["file"]) != row["file"]
+        ):
             row["same_as"] = self._shapes[shape]
             self._tally.same += 1
         for sink in self._sinks:

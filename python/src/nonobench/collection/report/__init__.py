@@ -15,7 +15,16 @@ from ..puzzles import MissingLibraryError, Row
 from ..rows import FIGURES, FITNESS, GRADES, fitness_of, flaws_of, printable, words_of
 from ..tally import Tally
 
-SIDES = (10, 15, 20, 25, 30, 40, 60, 120)  # the longer sides that puzzles are counted by
+SIDES = (
+    10,
+    15,
+    20,
+    25,
+    30,
+    40,
+    60,
+    120,
+)  # the longer sides that puzzles are counted by
 SAME = "the same clues as another"
 _FOLDER = Path(__file__).resolve().parent
 
@@ -29,11 +38,15 @@ class Report(Sink):
         self._new, self._title, self._tally = NewFile(name), title, tally
         self._rows = tempfile.TemporaryFile()
         self._sides: Counter[tuple[int, str]] = Counter()
-        self._filters: Counter[str] = Counter()  # by what is wrong with a puzzle, or the same
+        self._filters: Counter[
+            str
+        ] = Counter()  # by what is wrong with a puzzle, or the same
         self._numbers: dict[str, int] = {}
 
     def put(self, row: Row) -> None:
-        found = flaws_of(row, self._tally.allowed) + ([SAME] if "same_as" in row else [])
+        found = flaws_of(row, self._tally.allowed) + (
+            [SAME] if "same_as" in row else []
+        )
         self._filters.update(found)
         if "rows" in row:
             side = max(row["rows"], row["columns"])
@@ -74,7 +87,9 @@ class Report(Sink):
         """What the front of the page tells, as numbers and shares."""
         tally = self._tally
         tallest = max(tally.grades.values(), default=1)
-        sides = [(most, [self._sides[most, name] for name in FITNESS]) for most in SIDES]
+        sides = [
+            (most, [self._sides[most, name] for name in FITNESS]) for most in SIDES
+        ]
         widest = max((sum(counts) for _, counts in sides), default=1) or 1
         return {
             "total": tally.total,
@@ -82,9 +97,13 @@ class Report(Sink):
                 (name, tally.fitness[name], tally.fitness[name] / (tally.total or 1))
                 for name in FITNESS
             ],
-            "grades": [(name, tally.grades[name], tally.grades[name] / tallest) for name in GRADES],
+            "grades": [
+                (name, tally.grades[name], tally.grades[name] / tallest)
+                for name in GRADES
+            ],
             "filters": [
-                (number, name, self._filters[name]) for name, number in self._numbers.items()
+                (number, name, self._filters[name])
+                for name, number in self._numbers.items()
             ],
             "skipped": sorted(tally.skipped.items()),
             "graded": sum(tally.grades.values()),
@@ -93,7 +112,10 @@ class Report(Sink):
                     least + 1,
                     most,
                     sum(counts),
-                    [(name, count, count / widest) for name, count in zip(FITNESS, counts)],
+                    [
+                        (name, count, count / widest)
+                        for name, count in zip(FITNESS, counts)
+                    ],
                 )
                 for least, (most, counts) in zip((0, *SIDES), sides)
                 if sum(counts)
@@ -105,7 +127,10 @@ def record_of(row: Row, flaws: list[int]) -> list[Any]:
     """A row with the numbers of its flaws, as the page's script reads it. What is empty at its end
     is left out."""
     figures = row.get("figures", {})
-    givens = [(place[0] - 1) * row["columns"] + place[1] - 1 for place in row.get("givens", ())]
+    givens = [
+        (place[0] - 1) * row["columns"] + place[1] - 1
+        for place in row.get("givens", ())
+    ]
     record: list[Any] = [
         printable(row["file"]),
         row.get("title", ""),
@@ -132,7 +157,9 @@ def record_of(row: Row, flaws: list[int]) -> list[Any]:
 def runs_of(picture: str) -> str:
     """The cells of a picture, row after row: a letter, and how often it comes where that is more
     than once."""
-    return re.sub(r"(.)\1+", lambda run: f"{run[1]}{len(run[0])}", picture.replace("/", ""))
+    return re.sub(
+        r"(.)\1+", lambda run: f"{run[1]}{len(run[0])}", picture.replace("/", "")
+    )
 
 
 def _environment() -> Any:
