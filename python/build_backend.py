@@ -44,9 +44,7 @@ def build_wheel(wheel_directory, config_settings=None, metadata_directory=None):
         "".join([*classifiers, *_extra_lines(project["extras"])])
         + "Description-Content-Type: text/markdown\n\n"
     )
-    files[
-        f"{title}.dist-info/METADATA"
-    ] = f"{METADATA.format(**project)}{more}{readme}".encode()
+    files[f"{title}.dist-info/METADATA"] = f"{METADATA.format(**project)}{more}{readme}".encode()
     files[
         f"{title}.dist-info/entry_points.txt"
     ] = f"[console_scripts]\n{project['scripts']}\n".encode()
@@ -61,13 +59,9 @@ def build_wheel(wheel_directory, config_settings=None, metadata_directory=None):
         files[f"{title}.dist-info/NOTICES"] = (HERE / "NOTICES").read_bytes()
     files[f"{title}.dist-info/WHEEL"] = TAGS.format(str(is_pure).lower(), tag).encode()
     record = f"{title}.dist-info/RECORD"
-    files[record] = "".join(
-        [*map(_line, files, files.values()), f"{record},,\n"]
-    ).encode()
+    files[record] = "".join([*map(_line, files, files.values()), f"{record},,\n"]).encode()
     name = f"{title}-{tag}.whl"
-    with zipfile.ZipFile(
-        Path(wheel_directory, name), "w", zipfile.ZIP_DEFLATED
-    ) as wheel:
+    with zipfile.ZipFile(Path(wheel_directory, name), "w", zipfile.ZIP_DEFLATED) as wheel:
         for place, content in files.items():
             wheel.writestr(_entry(place), content)
     return name
@@ -78,9 +72,7 @@ def _project():
     are looked for."""
     text = (HERE / "pyproject.toml").read_text(encoding="utf-8")
     project = dict(
-        re.findall(
-            r'^(name|version|description|requires-python) = "(.*)"$', text, re.MULTILINE
-        )
+        re.findall(r'^(name|version|description|requires-python) = "(.*)"$', text, re.MULTILINE)
     )
     tables = dict(re.findall(r"^\[([\w.-]+)\]\n((?:(?!\[).+\n)*)", text, re.MULTILINE))
     extras = re.findall(
@@ -88,22 +80,16 @@ def _project():
         tables.get("project.optional-dependencies", ""),
         re.MULTILINE,
     )
-    scripts = re.findall(
-        r'^([\w-]+) = "(.*)"$', tables.get("project.scripts", ""), re.MULTILINE
-    )
+    scripts = re.findall(r'^([\w-]+) = "(.*)"$', tables.get("project.scripts", ""), re.MULTILINE)
     listed = {
         name: re.findall(r'"([^"]+)"', words)
-        for name, words in re.findall(
-            r"^(\w+) = \[([^]]*)\]$", tables["project"], re.MULTILINE
-        )
+        for name, words in re.findall(r"^(\w+) = \[([^]]*)\]$", tables["project"], re.MULTILINE)
     }
     return {
         **project,
         **listed,
         "keywords": ",".join(listed["keywords"]),
-        "author": re.search(r'^authors = \[\{ name = "(.*)" \}\]$', text, re.MULTILINE)[
-            1
-        ],
+        "author": re.search(r'^authors = \[\{ name = "(.*)" \}\]$', text, re.MULTILINE)[1],
         "licence": re.search(r'^license = \{ text = "(.*)" \}$', text, re.MULTILINE)[1],
         "python": project["requires-python"],
         "extras": {name: re.findall(r'"([^"]+)"', words) for name, words in extras},
@@ -128,9 +114,7 @@ def _package():
         for file in sorted(sources.rglob("*"))
         if file.suffix in CARRIED or file.name == "py.typed"
     ]
-    packed = {
-        file.relative_to(HERE / "src").as_posix(): file.read_bytes() for file in files
-    }
+    packed = {file.relative_to(HERE / "src").as_posix(): file.read_bytes() for file in files}
     for place in (sources / LIBRARY, HERE.parent / "c" / "out" / LIBRARY):
         if place.is_file():
             return {**packed, f"nonobench/{LIBRARY}": place.read_bytes()}
@@ -150,7 +134,5 @@ def _entry(place):
 
 def _line(place, content):
     """The line of a file in the wheel's record."""
-    digest = (
-        base64.urlsafe_b64encode(hashlib.sha256(content).digest()).decode().rstrip("=")
-    )
+    digest = base64.urlsafe_b64encode(hashlib.sha256(content).digest()).decode().rstrip("=")
     return f"{place},sha256={digest},{len(content)}\n"

@@ -31,9 +31,7 @@ GIVEN_CERT = "nonocert 2\ngiven 1 1\nline r 1\nline c 1\nline r 2\ndone\n"
 # As in tests/cases/: two certificates of UNIQUE, the second with lemmas, and such ones of AMBIGUOUS
 # with a cell given, and with all.
 CERT = "nonocert 1\nline r 1\nsplit 1 1\nline c 1\ndead r 2\nline r 1\nline c 1\nline c 2\ndone\n"
-LEMMAS = (
-    "nonolemma 1\npart 1 1 a\nline r 1\ndead c 2\nline r 1\nline c 1\nline r 2\ndone\n"
-)
+LEMMAS = "nonolemma 1\npart 1 1 a\nline r 1\ndead c 2\nline r 1\nline c 1\nline r 2\ndone\n"
 GIVEN_LEMMAS = "nonolemma 1\ngiven 1 1\nline r 1\nline c 1\nline r 2\ndone\n"
 ALL_LEMMAS = "nonolemma 1\ngiven 1 1\ngiven 1 2\ngiven 2 1\ngiven 2 2\ndone\n"
 
@@ -62,8 +60,7 @@ def chequered(side, colours):
     ends in time."""
     letters = "abcdefghijklmno"[: colours - 1] + "."
     return [
-        "".join(letters[(row + column) % colours] for column in range(side))
-        for row in range(side)
+        "".join(letters[(row + column) % colours] for column in range(side)) for row in range(side)
     ]
 
 
@@ -92,9 +89,7 @@ def cases_in(name):
     """The cases of a file: lists of lines, each a key and its value."""
     text = (CASES / name).read_text(encoding="utf-8")
     blocks = re.sub(r"(?m)^#.*\n", "", text).strip().split("\n\n")
-    return [
-        [line.partition(" ")[::2] for line in block.splitlines()] for block in blocks
-    ]
+    return [[line.partition(" ")[::2] for line in block.splitlines()] for block in blocks]
 
 
 def background_cases():
@@ -138,11 +133,7 @@ class Case(unittest.TestCase):
         """The command line of a run, apart from the folder that it runs in. Where no bound is
         named, no puzzle is too slow for it."""
         more = [
-            *(
-                []
-                if {"unpack", "--seconds"}.intersection(words)
-                else ["--seconds", str(PATIENCE)]
-            ),
+            *([] if {"unpack", "--seconds"}.intersection(words) else ["--seconds", str(PATIENCE)]),
             *([] if {"unpack", "--jobs"}.intersection(words) else ["--jobs", JOBS]),
         ]
         return [sys.executable, "-m", "nonobench.audit", *map(str, words), *more]

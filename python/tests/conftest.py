@@ -5,8 +5,5 @@ import pytest
 
 def pytest_collection_modifyitems(items):
     for item in items:
-        if (
-            item.path.parent.name == "tests"
-            and item.path.parent.parent.name == "python"
-        ):
+        if item.path.parent.name == "tests" and item.path.parent.parent.name == "python":
             item.add_marker(pytest.mark.since("0.8.0"))

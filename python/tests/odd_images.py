@@ -60,12 +60,7 @@ def shown(palette, cells=None):
 
 
 def chunk(kind, body=b""):
-    return (
-        struct.pack(">I", len(body))
-        + kind
-        + body
-        + struct.pack(">I", zlib.crc32(kind + body))
-    )
+    return struct.pack(">I", len(body)) + kind + body + struct.pack(">I", zlib.crc32(kind + body))
 
 
 def packed(samples, depth):
@@ -73,9 +68,7 @@ def packed(samples, depth):
     if depth == 16:
         return struct.pack(f">{len(samples)}H", *samples)
     bits = "".join(f"{sample:0{depth}b}" for sample in samples)
-    return bytes(
-        int(bits[at : at + 8].ljust(8, "0"), 2) for at in range(0, len(bits), 8)
-    )
+    return bytes(int(bits[at : at + 8].ljust(8, "0"), 2) for at in range(0, len(bits), 8))
 
 
 def filtered(kind, line, before, step):
@@ -132,9 +125,7 @@ def png(
         before = None
         for at, row in enumerate(piece):
             line = packed([sample for pixel in row for sample in pixel], depth)
-            data += filtered(
-                filters[at % len(filters)], line, before or bytes(len(line)), step
-            )
+            data += filtered(filters[at % len(filters)], line, before or bytes(len(line)), step)
             before = line
     head = struct.pack(
         ">IIBBBBB", *(size or (len(rows[0]), len(rows))), depth, kind, 0, 0, is_laced
@@ -166,9 +157,7 @@ STANDARD = (
     6000,
 )  # the primaries of sRGB
 WIDE = (31270, 32900, 64000, 33000, 21000, 71000, 15000, 6000)  # those of Adobe's RGB
-PRIMARIES, OTHERS = (
-    chunk(b"cHRM", struct.pack(">8I", *values)) for values in (STANDARD, WIDE)
-)
+PRIMARIES, OTHERS = (chunk(b"cHRM", struct.pack(">8I", *values)) for values in (STANDARD, WIDE))
 PLAIN_GAMMA = chunk(b"gAMA", struct.pack(">I", 45455))
 
 
@@ -221,9 +210,7 @@ def png_kinds():
         for filters in ((0,), (4, 3, 2, 1)):
             name = f"png-{kind}-{depth}{'-laced' if is_laced else ''}{'-filtered' if len(filters) > 1 else ''}"  # noqa: E501
             data = png(rows, depth, kind, more, is_laced, filters)
-            yield Odd(name, data, None, BITS) if depth == 16 else Odd(
-                name, data, pixels
-            )
+            yield Odd(name, data, None, BITS) if depth == 16 else Odd(name, data, pixels)
 
 
 def png_clear():
@@ -236,9 +223,7 @@ def png_clear():
             for both in zip(rows, pixels)
         ]
         for is_laced in (False, True):
-            data = png(
-                rows, depth, GREY, [chunk(b"tRNS", struct.pack(">H", key))], is_laced
-            )
+            data = png(rows, depth, GREY, [chunk(b"tRNS", struct.pack(">H", key))], is_laced)
             yield Odd(
                 f"png-grey-{depth}-clear{'-laced' if is_laced else ''}",
                 data,
@@ -253,12 +238,8 @@ def png_clear():
             png(rows, 8, RGB, [chunk(b"tRNS", struct.pack(">3H", *colour[:3]))]),
             shown(clear),
         )
-        deep = [
-            [tuple(257 * sample for sample in pixel) for pixel in row] for row in rows
-        ]
-        key = chunk(
-            b"tRNS", struct.pack(">3H", *(257 * sample for sample in colour[:3]))
-        )
+        deep = [[tuple(257 * sample for sample in pixel) for pixel in row] for row in rows]
+        key = chunk(b"tRNS", struct.pack(">3H", *(257 * sample for sample in colour[:3])))
         yield Odd(f"png-rgb-16-clear-{at}", png(deep, 16, RGB, [key]), None, BITS)
     cross = [[(1, 2, 3), (0, 0, 0)], [(0, 0, 0), (1, 2, 3)]]
     yield Odd(
@@ -309,9 +290,7 @@ FORMULA = (2.4, 1 / 1.055, 0.055 / 1.055, 1 / 12.92, 0.04045)
 
 
 def fixed(*numbers):
-    return struct.pack(
-        f">{len(numbers)}i", *(round(65536 * number) for number in numbers)
-    )
+    return struct.pack(f">{len(numbers)}i", *(round(65536 * number) for number in numbers))
 
 
 CURVE = b"para\0\0\0\0\0\3\0\0" + fixed(*FORMULA)
@@ -333,10 +312,7 @@ def profile_of(colorants, curve):
 def by_tables():
     """The profile of sRGB with tables, as older ones have them."""
     gamma, a, b, c, d = FORMULA
-    light = (
-        at * c if at < d else (a * at + b) ** gamma
-        for at in (n / 1023 for n in range(1024))
-    )
+    light = (at * c if at < d else (a * at + b) ** gamma for at in (n / 1023 for n in range(1024)))
     table = struct.pack(">1024H", *(round(65535 * value) for value in light))
     curve = b"curv\0\0\0\0" + struct.pack(">I", 1024) + table
     return chunk(b"iCCP", b"p\0\0" + zlib.compress(profile_of(XYZ, curve)))
@@ -403,9 +379,7 @@ def png_colours():
             "",
         ),
     ):
-        yield Odd(
-            f"png-{name}", png(rows, 8, RGB, more), None if reason else pixels, reason
-        )
+        yield Odd(f"png-{name}", png(rows, 8, RGB, more), None if reason else pixels, reason)
     for name, end, reason in (
         ("srgb", SRGB, BROKEN),
         ("profile", profile, BROKEN),
@@ -440,9 +414,7 @@ def png_colours():
         ("clear", [(9, 9, 9), (255, 0, 255)], ""),
         ("near", [(9, 9, 9), (254, 254, 254)], PROFILE),
     ):
-        data = png(
-            black, 8, INDEXED, [PLAIN_GAMMA, PRIMARIES, palette_chunk(colours), clear]
-        )
+        data = png(black, 8, INDEXED, [PLAIN_GAMMA, PRIMARIES, palette_chunk(colours), clear])
         yield Odd(
             f"png-corners-{name}",
             data,
@@ -577,14 +549,10 @@ def png_broken():
             None,
             BROKEN,
         )
-    yield Odd(
-        "png-no-data", good[: at - 4] + chunk(b"IDAT") + chunk(b"IEND"), None, BROKEN
-    )
+    yield Odd("png-no-data", good[: at - 4] + chunk(b"IDAT") + chunk(b"IEND"), None, BROKEN)
     yield Odd("png-more-rows", png(rgb + rgb, 8, RGB, size=(5, 4)), shown(COLOURS))
     body = good[at + 4 : at + 4 + struct.unpack(">I", good[at - 4 : at])[0]]
-    parts = b"".join(
-        chunk(b"IDAT", body[one : one + 3]) for one in range(0, len(body), 3)
-    )
+    parts = b"".join(chunk(b"IDAT", body[one : one + 3]) for one in range(0, len(body), 3))
     yield Odd(
         "png-parts",
         good[: at - 4] + parts + chunk(b"IDAT") + chunk(b"IEND"),
@@ -664,9 +632,7 @@ def pnms():
         levels = [0, most, most // 2, most // 3]
         greys = shown([grey(level, most) for level in levels])
         words = " ".join(str(levels[cell]) for row in CELLS for cell in row)
-        yield Odd(
-            f"pnm-2-{most}", f"{head.format(2)}{most} {words}\n# end".encode(), greys
-        )
+        yield Odd(f"pnm-2-{most}", f"{head.format(2)}{most} {words}\n# end".encode(), greys)
         yield Odd(
             f"pnm-5-{most}",
             f"{head.format(5)}{most} ".encode()
@@ -677,15 +643,11 @@ def pnms():
             (*grey(level, most)[:1], grey(other, most)[0], 0, 255)
             for level, other in zip(levels, levels[1:] + levels[:1])
         ]
-        triples = [
-            (level, other, 0) for level, other in zip(levels, levels[1:] + levels[:1])
-        ]
+        triples = [(level, other, 0) for level, other in zip(levels, levels[1:] + levels[:1])]
         yield Odd(
             f"pnm-6-{most}",
             f"{head.format(6)}{most}\n".encode()
-            + bytes(
-                sample for row in CELLS for cell in row for sample in triples[cell]
-            ),
+            + bytes(sample for row in CELLS for cell in row for sample in triples[cell]),
             shown(colour),
         )
 

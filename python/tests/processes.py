@@ -21,12 +21,7 @@ GONE = Seen("", 0, 0, 0.0)
 def seen(pid):
     """A process."""
     try:
-        words = (
-            Path(f"/proc/{pid}/stat")
-            .read_text(errors="replace")
-            .rpartition(")")[2]
-            .split()
-        )
+        words = Path(f"/proc/{pid}/stat").read_text(errors="replace").rpartition(")")[2].split()
         return Seen(
             words[0],
             int(words[1]),
@@ -51,9 +46,7 @@ def only_child(call):
     """The process that this program starts during a call, which starts one."""
     before = set(children(os.getpid()))
     call()
-    (pid,) = (
-        pid for pid in children(os.getpid()) if pid not in before and is_running(pid)
-    )
+    (pid,) = (pid for pid in children(os.getpid()) if pid not in before and is_running(pid))
     return pid
 
 

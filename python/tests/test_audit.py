@@ -62,9 +62,7 @@ class Names(Case):
 
     def test_whose_a_file_is(self):
         """The cases that the page reads, too."""
-        text = re.sub(
-            r"(?m)^#.*\n", "", (CASES / "names.txt").read_text(encoding="utf-8")
-        )
+        text = re.sub(r"(?m)^#.*\n", "", (CASES / "names.txt").read_text(encoding="utf-8"))
         cases = re.findall(r"(?m)^folder (.+)\n((?:(?!folder ).*\n)*)", text)
         self.assertGreaterEqual(len(cases), 10)
         words = {"certificate": "cert"}
@@ -76,14 +74,10 @@ class Names(Case):
                 for kind, value in self.found(folder, []):
                     name, *belongs = value.split(" ")
                     if kind == "puzzle" and belongs:
-                        found.append(
-                            f"{name}: {' '.join(words.get(one, one) for one in belongs)}"
-                        )
+                        found.append(f"{name}: {' '.join(words.get(one, one) for one in belongs)}")
                     elif kind == "of_none":
                         found.append(f"stray {name[:-1]}")
-                self.assertEqual(
-                    sorted(found), sorted(filter(None, lines.splitlines()))
-                )
+                self.assertEqual(sorted(found), sorted(filter(None, lines.splitlines())))
 
     def test_what_is_found_in_folders(self):
         cases = cases_in("folders.txt")
@@ -99,9 +93,7 @@ class Names(Case):
                 wanted = [(key, value) for key, value in case if key in keys]
                 self.assertEqual(sorted(found), sorted(wanted))
                 order = [value.split(" ")[0] for key, value in case if key == "puzzle"]
-                self.assertEqual(
-                    [v.split(" ")[0] for k, v in found if k == "puzzle"], order
-                )
+                self.assertEqual([v.split(" ")[0] for k, v in found if k == "puzzle"], order)
 
     def fill(self, folder, words):
         folder.mkdir(parents=True)
@@ -127,9 +119,7 @@ class Names(Case):
             else:
                 found.append(("puzzle", self.described(row)))
         skipped = re.search(r"(?m)^skipped: (.+)$", done.stdout)
-        return found + [
-            ("skipped", one) for one in (skipped[1].split(", ") if skipped else [])
-        ]
+        return found + [("skipped", one) for one in (skipped[1].split(", ") if skipped else [])]
 
     def described(self, row):
         belongs = {
@@ -159,16 +149,12 @@ class Names(Case):
         self.assertEqual(
             self.files("pairs"),
             sorted(
-                f"{name}.ppm{ending}"
-                for name in names
-                for ending in ("", ".cert", *more[name])
+                f"{name}.ppm{ending}" for name in names for ending in ("", ".cert", *more[name])
             ),
         )
         rows = self.rows("site", "--beside", "certs")
         accepted = [
-            name
-            for name, row in rows.items()
-            if row.get("certificate", {}).get("accepted")
+            name for name, row in rows.items() if row.get("certificate", {}).get("accepted")
         ]
         # Neither the givens nor the background are in certs, and another one is not judged.
         self.assertEqual(accepted, ["small/one.png"])
@@ -177,9 +163,7 @@ class Names(Case):
 
     def files(self, folder):
         path = self.folder / folder
-        return sorted(
-            str(one.relative_to(path)) for one in path.rglob("*") if one.is_file()
-        )
+        return sorted(str(one.relative_to(path)) for one in path.rglob("*") if one.is_file())
 
 
 class Folders(Case):
@@ -211,18 +195,12 @@ class Folders(Case):
         names = "site/two.ppm\n\nsite/one.ppm\nsite/gone.ppm\n"
         (self.folder / "names").write_text(names)
         for word, more in (("names", {}), ("-", {"input": names})):
-            done = self.run_audit(
-                "--files-from", word, "--jsonl", "-", status=1, **more
-            )
+            done = self.run_audit("--files-from", word, "--jsonl", "-", status=1, **more)
             rows = list(map(json.loads, done.stdout.splitlines()))
-            self.assertEqual(
-                [row["verdict"] for row in rows], ["ambiguous", "unique", "error"]
-            )
+            self.assertEqual([row["verdict"] for row in rows], ["ambiguous", "unique", "error"])
             self.assertEqual(rows[2]["error"], "No such file or directory")
         done = self.run_audit("--files-from", "names", "--certify", "x", status=1)
-        done = self.run_audit(
-            "--files-from", "-", "--certify", "x", input="/etc/passwd\n"
-        )
+        done = self.run_audit("--files-from", "-", "--certify", "x", input="/etc/passwd\n")
         self.assertEqual(done.returncode, 3)
         self.assertIn("/etc/passwd: no place below", done.stderr)
 
@@ -281,9 +259,7 @@ class Folders(Case):
         self.run_audit("site/none.ppm", status=2)
         version = f"nonobench-audit {nonobench.version()}\n"
         self.assertEqual(self.run_audit("--version", status=0).stdout, version)
-        self.assertIn(
-            "status:\n  0  every puzzle", self.run_audit("--help", status=0).stdout
-        )
+        self.assertIn("status:\n  0  every puzzle", self.run_audit("--help", status=0).stdout)
 
     @unittest.skipIf(os.geteuid() == 0, "root may list each folder")
     def test_a_folder_that_cannot_be_listed(self):
@@ -312,9 +288,7 @@ class Strangers(Case):
         self.put("given.xml", webpbn(AMBIGUOUS, more=SAVED))
         self.put("dark.xml", dark)
         rows = self.rows("site")
-        self.assertEqual(
-            (rows["given.xml"]["verdict"], rows["given.xml"]["fit"]), ("unique", True)
-        )
+        self.assertEqual((rows["given.xml"]["verdict"], rows["given.xml"]["fit"]), ("unique", True))
         self.assertEqual(rows["dark.xml"]["background"], "000000")
         rows = self.rows("site", "--untrusted", status=1)
         self.assertEqual(rows["given.xml"]["verdict"], "ambiguous")
@@ -342,9 +316,7 @@ class Strangers(Case):
         self.assertEqual((row["verdict"], row["fit"]), ("unique", True))
         self.assertEqual(row["certificate"], {"accepted": True, "givens": [[1, 1]]})
         row = self.rows("site", "--untrusted", status=1)["two.ppm"]
-        self.assertEqual(
-            (row["verdict"], row["ignored"]), ("ambiguous", ["certificate", "givens"])
-        )
+        self.assertEqual((row["verdict"], row["ignored"]), ("ambiguous", ["certificate", "givens"]))
         table = self.run_audit("site", "--untrusted").stdout
         self.assertIn("two.ppm; not believed: certificate, givens", table)
 
@@ -357,9 +329,7 @@ class Strangers(Case):
         self.put("white.ppm.background", "white")
         rows = self.rows("site", "--untrusted", status=1)
         why = "its background 0,0,40 is not believed: name it"
-        self.assertEqual(
-            (rows["moon.ppm"]["verdict"], rows["moon.ppm"]["error"]), ("error", why)
-        )
+        self.assertEqual((rows["moon.ppm"]["verdict"], rows["moon.ppm"]["error"]), ("error", why))
         self.assertEqual(rows["white.ppm"]["verdict"], "unique")
         rows = self.rows("site", "--untrusted", "--background", "0,0,40")
         self.assertEqual(rows["moon.ppm"]["verdict"], "ambiguous")
@@ -381,12 +351,8 @@ class Rows(Case):
         self.put("key.non", "width 1\nheight 1\nrows\n1\ncolumns\n1\n")
         rows = self.rows("site", status=1)
         names = ("verdict", "fit", "rows", "columns", "colours", "open")
-        self.assertEqual(
-            [rows["one.ppm"][n] for n in names], ["unique", True, 2, 2, 3, 0]
-        )
-        self.assertEqual(
-            [rows["two.ppm"][n] for n in names], ["ambiguous", False, 2, 2, 2, 4]
-        )
+        self.assertEqual([rows["one.ppm"][n] for n in names], ["unique", True, 2, 2, 3, 0])
+        self.assertEqual([rows["two.ppm"][n] for n in names], ["ambiguous", False, 2, 2, 2, 4])
         one = rows["one.ppm"]
         self.assertEqual(one["picture"], "a./.b")
         self.assertEqual(one["palette"], ["ffffff", "000000", "ff0000"])
@@ -418,9 +384,7 @@ class Rows(Case):
         self.put("bad.ppm", "P3 9")
         self.put("hard.ppm", HARD)
         rows = {**self.rows("site", "--certify", "certs", "--seconds", "1")}
-        rows["untrusted"] = self.rows("site", "--untrusted", "--seconds", "1")[
-            "title.xml"
-        ]
+        rows["untrusted"] = self.rows("site", "--untrusted", "--seconds", "1")["title.xml"]
         seen = set()
         for row in rows.values():
             self.check(row, schema)
@@ -467,13 +431,9 @@ class Rows(Case):
         why = "certificate UnpublishedGiven at line 2"
         refused = {"accepted": False, "why": why, "givens": [[1, 1]]}
         self.assertEqual(rows["bad.ppm"]["certificate"], refused)
-        self.assertEqual(
-            (rows["bad.ppm"]["verdict"], rows["bad.ppm"]["fit"]), ("unique", False)
-        )
+        self.assertEqual((rows["bad.ppm"]["verdict"], rows["bad.ppm"]["fit"]), ("unique", False))
         self.assertIn("byte order mark", rows["edited.ppm"]["certificate"]["why"])
-        self.assertEqual(
-            (rows["good.ppm"]["fit"], rows["bare.ppm"]["fit"]), (True, True)
-        )
+        self.assertEqual((rows["good.ppm"]["fit"], rows["bare.ppm"]["fit"]), (True, True))
         rows = self.rows("site", "--certified", status=1)
         fit = [name for name, row in rows.items() if row["fit"]]
         self.assertEqual(fit, ["good.ppm"])
@@ -539,9 +499,7 @@ class Rows(Case):
                 if refused:
                     self.assertIn(f"the image is refused: {refused} (", row["error"])
                 else:
-                    self.assertEqual(
-                        (row["background"], row["background_from"]), wanted
-                    )
+                    self.assertEqual((row["background"], row["background_from"]), wanted)
 
     def test_what_is_named_beside(self):
         """The texts that the page reads too."""
@@ -577,9 +535,7 @@ def givens_words(text):
 
 def background_words(text):
     """The background that a file names."""
-    data = b"P3 1 1 65535 %s\n" % (
-        text.strip().replace(b",", b" ") if b"," in text else b"0 0 0"
-    )
+    data = b"P3 1 1 65535 %s\n" % (text.strip().replace(b",", b" ") if b"," in text else b"0 0 0")
     row = judge([Question("one.ppm", data, background=text)])[0].row
     if "error" in row:
         return "refused"
@@ -612,9 +568,7 @@ class Loop(Case):
         wanted = ["ambiguous" if number % 3 == 2 else "unique" for number in range(100)]
         rows = list(audit(self.puzzles(), options))
         self.assertEqual([row["verdict"] for row in rows], wanted)
-        self.assertEqual(
-            [row["file"] for row in rows], [name for name, _ in self.puzzles()]
-        )
+        self.assertEqual([row["file"] for row in rows], [name for name, _ in self.puzzles()])
         with ThreadPoolExecutor(3) as threads:
             self.assertEqual(list(audit(self.puzzles(), options, threads)), rows)
         self.assertEqual(list(audit(self.puzzles(), options, Inline())), rows)
@@ -650,9 +604,7 @@ class Loop(Case):
             self.put(f"{number}.ppm", p3(UNIQUE))
         rows = self.rows("site", "--seconds", "1", "--jobs", "1", status=1)
         self.assertEqual(len(rows), 41)
-        self.assertEqual(
-            {row["verdict"] for row in rows.values()}, {"unique", "undecided"}
-        )
+        self.assertEqual({row["verdict"] for row in rows.values()}, {"unique", "undecided"})
         hard = rows["hard.ppm"]
         self.assertEqual(hard["limit"], {"seconds": 1, "memory": 1024})
         self.assertEqual(hard["notes"], ["no answer within its processor time"])
@@ -674,9 +626,7 @@ class Loop(Case):
             self.put(name, data)
         texts = set()
         for jobs in ("1", "3"):
-            self.run_audit(
-                "site", "--max-guesses", "9", "--jobs", jobs, "--jsonl", "r", status=1
-            )
+            self.run_audit("site", "--max-guesses", "9", "--jobs", jobs, "--jsonl", "r", status=1)
             texts.add((self.folder / "r").read_text())
         self.assertEqual(len(texts), 1)
 
@@ -711,9 +661,7 @@ class Loop(Case):
             self.skipTest("there is no distributed")
         self.put("one.ppm", p3(UNIQUE))
         more = {"DASK_DISTRIBUTED__COMM__TIMEOUTS__CONNECT": "1s"}
-        done = self.run_audit(
-            "site", "--scheduler", "tcp://127.0.0.1:1", status=3, **more
-        )
+        done = self.run_audit("site", "--scheduler", "tcp://127.0.0.1:1", status=3, **more)
         self.assertNotIn("Traceback", done.stderr.rpartition("nonobench-audit:")[2])
 
 
@@ -733,9 +681,7 @@ class Resume(Case):
         """Marks each row of a file, so that one sees which are kept."""
         path = self.folder / name
         lines = [json.loads(line) for line in path.read_text().splitlines()]
-        path.write_text(
-            "".join(json.dumps({**row, "title": "kept"}) + "\n" for row in lines)
-        )
+        path.write_text("".join(json.dumps({**row, "title": "kept"}) + "\n" for row in lines))
 
     def kept(self, *words, status=None):
         """The rows that a run keeps."""
@@ -810,9 +756,7 @@ class Resume(Case):
         self.put("a.ppm", p3(AMBIGUOUS))
         (self.site / "gone.ppm").unlink()
         said = self.run_audit(*words, status=1).stderr
-        self.assertEqual(
-            sorted(os.listdir(self.folder / "certs")), ["b.ppm.cert", "gone.ppm.cert"]
-        )
+        self.assertEqual(sorted(os.listdir(self.folder / "certs")), ["b.ppm.cert", "gone.ppm.cert"])
         self.assertIn("certs: 1 files of no puzzle of this run", said)
         self.assertIn("pairs: 2 files of no puzzle of this run", said)
         self.assertFalse((self.folder / "pairs" / "a.ppm.ppm").exists())
@@ -828,9 +772,7 @@ class Resume(Case):
             self.put(f"{number}.ppm", picture)
         self.rows(*words, "--resume", status=0)
         for number, picture in enumerate([p3(["bb", "aa"]), *pictures]):
-            self.assertEqual(
-                (self.folder / "pairs" / f"{number}.ppm.ppm").read_bytes(), picture
-            )
+            self.assertEqual((self.folder / "pairs" / f"{number}.ppm.ppm").read_bytes(), picture)
         (self.folder / "certs" / "2.ppm.cert").write_text("")
         self.marked()
         self.assertEqual(self.kept(*words, status=0), ["0.ppm", "1.ppm", "3.ppm"])
@@ -858,9 +800,7 @@ class Resume(Case):
                 capture_output=True,
                 check=False,
             )
-            self.assertEqual(
-                (done.returncode, self.read("rows.jsonl")), (3, before), done.stderr
-            )
+            self.assertEqual((done.returncode, self.read("rows.jsonl")), (3, before), done.stderr)
         self.assertEqual(list(self.folder.glob("*.new")), [])
 
     def test_two_runs_at_once(self):
@@ -955,14 +895,10 @@ class Resume(Case):
         wanted = [("a.ppm", "unique", 1), ("b.ppm", "ambiguous", 0)]
         self.assertEqual(database.execute(asked).fetchall(), wanted)
         with database:
-            database.execute(
-                """UPDATE puzzles SET row = json_set(row, '$.title', 'kept')"""
-            )
+            database.execute("""UPDATE puzzles SET row = json_set(row, '$.title', 'kept')""")
         self.put("b.ppm", p3(UNIQUE))
         words = ["site", "--sqlite", "x.db", "--resume", "--jsonl", "-"]
-        rows = list(
-            map(json.loads, self.run_audit(*words, status=0).stdout.splitlines())
-        )
+        rows = list(map(json.loads, self.run_audit(*words, status=0).stdout.splitlines()))
         self.assertEqual([row.get("title") for row in rows], ["kept", "kept"])
         # The row of b.ppm is that of a.ppm, of which the bytes are the same.
         self.assertEqual([row["file"] for row in rows], ["a.ppm", "b.ppm"])
@@ -981,9 +917,7 @@ class Outputs(Case):
         self.put("one.ppm", p3(UNIQUE))
         self.put("two.ppm", p3(AMBIGUOUS))
         printed = self.run_audit("site").stdout
-        self.assertRegex(
-            printed, r"^FIT  VERDICT +SIZE  COLOURS  BACKGROUND  GIVENS +OPEN  GRADE"
-        )
+        self.assertRegex(printed, r"^FIT  VERDICT +SIZE  COLOURS  BACKGROUND  GIVENS +OPEN  GRADE")
         one = r"(?m)^yes  unique +2x2 +3 +#ffffff +0 +0 +easy +[0-9.]+  one\.ppm$"
         self.assertRegex(printed, one)
         two = r"(?m)^no   ambiguous +2x2 +2 +#ffffff +0 +4 +[0-9.]+  two\.ppm$"
@@ -1011,13 +945,9 @@ class Outputs(Case):
             self.put(f"{number}.xml", webpbn(UNIQUE, title))
         self.run_audit("site", "--csv", "rows.csv", status=0)
         rows = list(csv.DictReader(io.StringIO((self.folder / "rows.csv").read_text())))
-        self.assertEqual(
-            [row["title"] for row in rows if row["title"]], list(titles.values())
-        )
+        self.assertEqual([row["title"] for row in rows if row["title"]], list(titles.values()))
         row = rows[-1]
-        self.assertEqual(
-            (row["file"], row["fit"], row["verdict"]), ("'=1+1.ppm", "yes", "unique")
-        )
+        self.assertEqual((row["file"], row["fit"], row["verdict"]), ("'=1+1.ppm", "yes", "unique"))
         self.assertEqual((row["givens"], row["certificate_givens"]), ("1,1", "1,1"))
         self.assertEqual(row["palette"], "#ffffff #000000")
         self.assertEqual(row["digest"], hashlib.sha256(p3(AMBIGUOUS)).hexdigest())
@@ -1047,13 +977,9 @@ class Outputs(Case):
         rows = self.rows("site", "--ppm", "pairs", "--certify", "certs", status=1)
         long, other, z = rows.values()
         self.assertIn("File name too long", long["error"])
-        self.assertEqual(
-            (long["verdict"], long["fit"], "key" in long), ("error", False, False)
-        )
+        self.assertEqual((long["verdict"], long["fit"], "key" in long), ("error", False, False))
         self.assertEqual((other["verdict"], z["fit"]), ("ambiguous", True))
-        self.assertEqual(
-            sorted(os.listdir(self.folder / "pairs")), ["z.ppm.ppm", "z.ppm.ppm.cert"]
-        )
+        self.assertEqual(sorted(os.listdir(self.folder / "pairs")), ["z.ppm.ppm", "z.ppm.ppm.cert"])
 
     def test_outputs_that_cannot_be_written(self):
         self.put("one.ppm", p3(UNIQUE))
@@ -1068,9 +994,7 @@ class Outputs(Case):
                 self.assertIn(why, done.stderr)
                 self.assertEqual(done.returncode, 2 if "lies" in why else 3)
         (self.folder / "file").write_text("")
-        done = self.run_audit(
-            "site", "--certify", "file/x", "--jsonl", "rows", status=3
-        )
+        done = self.run_audit("site", "--certify", "file/x", "--jsonl", "rows", status=3)
         self.assertIn("Not a directory", done.stderr)
 
     def test_a_full_disk_and_a_closed_pipe(self):
@@ -1090,9 +1014,7 @@ class Outputs(Case):
         process.stdout.readline()
         process.stdout.close()
         said = process.stderr.read()
-        self.assertEqual(
-            (process.wait(PATIENCE), "output is closed" in said), (3, True), said
-        )
+        self.assertEqual((process.wait(PATIENCE), "output is closed" in said), (3, True), said)
 
     def test_report(self):
         self.put("one.ppm", p3(UNIQUE))
@@ -1105,30 +1027,20 @@ class Outputs(Case):
         self.run_audit("site", "--html", "report.html", "--title", title, status=1)
         page = (self.folder / "report.html").read_text()
         self.assertIn("<h1>Mine &amp; &lt;i&gt;yours&lt;/i&gt;</h1>", page)
-        self.assertNotRegex(
-            page, r"""(?:src|href)=["'](?!data:|#)|@import|url\((?!["']?data:)"""
-        )
+        self.assertNotRegex(page, r"""(?:src|href)=["'](?!data:|#)|@import|url\((?!["']?data:)""")
         self.assertRegex(page, r"default-src 'none'")
         self.assertIn("skipped: .jpg 1", page)
-        tiles = re.findall(
-            r'class="tile (\w+)"[^>]*>\s*<span[^>]*></span><strong>(\d+)<', page
-        )
+        tiles = re.findall(r'class="tile (\w+)"[^>]*>\s*<span[^>]*></span><strong>(\d+)<', page)
         counts = [("fit", "2"), ("flawed", "1"), ("ambiguous", "1"), ("undecided", "0")]
         self.assertEqual(tiles, [*counts, ("error", "1")])
-        flaws = re.findall(
-            r'data-flaw="(\d+)" aria-pressed="false">([^<]+) <strong>(\d+)<', page
-        )
+        flaws = re.findall(r'data-flaw="(\d+)" aria-pressed="false">([^<]+) <strong>(\d+)<', page)
         wanted = [("0", "blank pictures", "1"), ("1", "the same clues as another", "1")]
         self.assertEqual(flaws, wanted)
         records = {record[0]: record for record in records_of(page)}
         self.assertEqual(records["bad.ppm"][4], 4)
-        self.assertEqual(
-            records["one.ppm"][2:5] + records["one.ppm"][8:9], [2, 2, 0, "a.2b"]
-        )
+        self.assertEqual(records["one.ppm"][2:5] + records["one.ppm"][8:9], [2, 2, 0, "a.2b"])
         self.assertEqual(records["two.ppm"][8:10], ["a.2a", ".a2."])
-        self.assertEqual(
-            (records["blank.ppm"][15], records["same.ppm"][15]), ([0], [1])
-        )
+        self.assertEqual((records["blank.ppm"][15], records["same.ppm"][15]), ([0], [1]))
 
     def test_bars_have_their_heights(self):
         """A bar is as tall as its share of the largest."""
@@ -1137,9 +1049,7 @@ class Outputs(Case):
         self.put("wide.ppm", p3([".a" * 6, "a." * 6, "." * 12]))
         self.run_audit("site", "--html", "report.html")
         page = (self.folder / "report.html").read_text()
-        shares = re.findall(
-            r'<span class="bar [a-z]+" style="--share: ([0-9.]+)"></span>', page
-        )
+        shares = re.findall(r'<span class="bar [a-z]+" style="--share: ([0-9.]+)"></span>', page)
         self.assertEqual(sorted(map(float, shares)), [0.25, 1.0])
         self.assertRegex(page, r"height: calc\(104px \* var\(--share\)\)")
         self.assertNotIn("max-height: 104px", page)
@@ -1162,13 +1072,9 @@ class Outputs(Case):
             done.stderr,
         )
         rows = self.read("rows.jsonl")
-        self.assertEqual(
-            (rows["one.png"]["missing"], rows["two.ppm"]["fit"]), ("Pillow", True)
-        )
+        self.assertEqual((rows["one.png"]["missing"], rows["two.ppm"]["fit"]), ("Pillow", True))
         self.assertNotIn("key", rows["one.png"])
-        row = self.rows("site", "--resume", status=0)[
-            "one.png"
-        ]  # where Pillow is installed
+        row = self.rows("site", "--resume", status=0)["one.png"]  # where Pillow is installed
         self.assertEqual(row["verdict"], "unique")
         done = subprocess.run([*words, "--html", "x.html"], **more)
         self.assertIn("Jinja2, which makes the report, is not installed", done.stderr)
@@ -1188,24 +1094,18 @@ class Outputs(Case):
             "struct",
             "sqlite3",
         ):
-            self.put(
-                f"{name}.py", f"open({str(self.folder / 'run')!r}, 'a').write('{name}')"
-            )
+            self.put(f"{name}.py", f"open({str(self.folder / 'run')!r}, 'a').write('{name}')")
         source = f"import sys; sys.path.insert(0, {str(ROOT / 'python' / 'src')!r})"
         code = f"{source}; from nonobench.collection import main; sys.exit(main())"
         words = [sys.executable, "-I", "-c", code, "."]
-        done = subprocess.run(
-            words, cwd=self.site, capture_output=True, text=True, env=self.env()
-        )
+        done = subprocess.run(words, cwd=self.site, capture_output=True, text=True, env=self.env())
         self.assertEqual(done.returncode, 0, done.stderr)
         self.assertFalse((self.folder / "run").exists())
 
 
 def records_of(page):
     """The records of a report."""
-    found = re.search(
-        r'<script type="application/json" id="rows">(.*?)</script>', page, re.DOTALL
-    )
+    found = re.search(r'<script type="application/json" id="rows">(.*?)</script>', page, re.DOTALL)
     return json.loads(found[1])
 
 

@@ -63,9 +63,7 @@ class Reading(unittest.TestCase):
         text = (HERE.parent.parent / "docs" / "AUDIT.md").read_text(encoding="utf-8")
         more = {"damaged", "white and transparent", "no background"}
         section = text.split("| reason |")[1].split("\n\n")[0]
-        self.assertEqual(
-            set(re.findall(r"(?m)^\| `([^`]+)` \|", section)), {*REASONS, *more}
-        )
+        self.assertEqual(set(re.findall(r"(?m)^\| `([^`]+)` \|", section)), {*REASONS, *more})
 
     def compare(self, variable, usual, *words):
         """Compares what is read with what a browser shows."""
@@ -78,18 +76,13 @@ class Reading(unittest.TestCase):
             for odd in ODD:
                 (Path(folder) / odd.name).write_bytes(odd.data)
             command = ["node", HERE / "canvas.mjs", folder, *words]
-            shown = json.loads(
-                subprocess.run(command, check=True, capture_output=True).stdout
-            )
+            shown = json.loads(subprocess.run(command, check=True, capture_output=True).stdout)
         compared = 0
         for odd in ODD:
             pixels, _ = read(odd.data)
             if pixels is None or odd.name not in shown or odd.name.startswith(NEAR):
                 continue
-            seen = [
-                [tuple(dot) if dot[3] else CLEAR for dot in row]
-                for row in shown[odd.name]
-            ]
+            seen = [[tuple(dot) if dot[3] else CLEAR for dot in row] for row in shown[odd.name]]
             with self.subTest(odd.name):
                 self.assertEqual(pixels, seen)
             compared += 1
@@ -109,19 +102,13 @@ class Pictures(unittest.TestCase):
         pixels = [(*BLACK, 255), (9, 9, 9, 0), (7, 7, 7, 0), (*RED, 255)]
         data = image("PNG", "RGBA", pixels)
         self.assertEqual(nonobench.picture_of_image(data), p3(UNIQUE))
-        self.assertEqual(
-            nonobench.picture_of_image(data, (1, 2, 3)), p3(UNIQUE, (1, 2, 3))
-        )
+        self.assertEqual(nonobench.picture_of_image(data, (1, 2, 3)), p3(UNIQUE, (1, 2, 3)))
         with self.assertRaises(nonobench.ImageError) as caught:
             nonobench.picture_of_image(data, BLACK)
         self.assertEqual(caught.exception.name, "white and transparent")
-        self.assertIn(
-            "name a background that no opaque cell has", str(caught.exception)
-        )
+        self.assertIn("name a background that no opaque cell has", str(caught.exception))
         for ground in ((0, 0, 256), (-1, 0, 0), (0, 0), (0, 0, 0.5), 7, "red"):
-            with self.subTest(ground), self.assertRaisesRegex(
-                ValueError, "up|from 0 to 255"
-            ):
+            with self.subTest(ground), self.assertRaisesRegex(ValueError, "up|from 0 to 255"):
                 nonobench.picture_of_image(data, ground)
 
     def test_netpbm(self):
@@ -156,9 +143,7 @@ class Pictures(unittest.TestCase):
             (b"P4 121 1\n", "121 by 1"),
             (image("PNG", "RGB", [WHITE] * 121, (1, 121)), "1 by 121"),
         ):
-            with self.assertRaisesRegex(
-                nonobench.ImageError, f"^{size} pixels, and a puzzle has"
-            ):
+            with self.assertRaisesRegex(nonobench.ImageError, f"^{size} pixels, and a puzzle has"):
                 nonobench.picture_of_image(data)
 
     def test_long_texts_take_little_memory(self):
@@ -182,9 +167,7 @@ class Pictures(unittest.TestCase):
             done = subprocess.run(words, check=True, capture_output=True, text=True)
             wanted = "[b'1', b'2', b'3']" if b"P6" in data else "[b'0', b'0', b'0']"
             with self.subTest(data):
-                self.assertEqual(
-                    done.stdout.strip(), "damaged" if b" 9 9" in data else wanted
-                )
+                self.assertEqual(done.stdout.strip(), "damaged" if b" 9 9" in data else wanted)
 
 
 if __name__ == "__main__":

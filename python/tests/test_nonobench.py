@@ -67,9 +67,7 @@ def bytes_of(text):
 def cases(name):
     """What is asked, and what has to come."""
     for line in (
-        (ROOT / "tests" / "cases" / f"{name}.case")
-        .read_text(encoding="utf-8")
-        .splitlines()
+        (ROOT / "tests" / "cases" / f"{name}.case").read_text(encoding="utf-8").splitlines()
     ):
         if line and not line.startswith("#"):
             asked, _, answer = line.rpartition(" => ")
@@ -78,9 +76,7 @@ def cases(name):
 
 def places_of(word):
     """The cells of a word of cases, which may be - for none."""
-    return tuple(
-        Given(*map(int, place.split(","))) for place in word.split(";") if place != "-"
-    )
+    return tuple(Given(*map(int, place.split(","))) for place in word.split(";") if place != "-")
 
 
 def picture_of(rows):
@@ -115,18 +111,14 @@ class Cases(unittest.TestCase):
     def compare(self, asked, answer, call):
         wrote = answer.replace(" | ", "\n") + "\n"
         wanted = (
-            ("", f"nonobench: {answer[2:]}\n", 1)
-            if answer.startswith("! ")
-            else (wrote, "", 0)
+            ("", f"nonobench: {answer[2:]}\n", 1) if answer.startswith("! ") else (wrote, "", 0)
         )
         with self.subTest(asked):
             self.assertEqual(told(call), wanted)
 
     def test_pictures(self):
         for asked, answer in cases("pictures"):
-            self.compare(
-                asked, answer, lambda text=bytes_of(asked): nonobench.clues(text)
-            )
+            self.compare(asked, answer, lambda text=bytes_of(asked): nonobench.clues(text))
 
     def test_certificates(self):
         for name in ("certificates", "lemmas"):
@@ -146,14 +138,12 @@ class Cases(unittest.TestCase):
     def test_published(self):
         count = 0
         for asked, answer in cases("published"):
-            (rows, published, text), (givens, _, answer) = asked.split(
-                " ", 2
-            ), answer.partition(" ")
+            (rows, published, text), (givens, _, answer) = asked.split(" ", 2), answer.partition(
+                " "
+            )
             pair = picture_of(rows), bytes_of(text)
             places = ANY_GIVEN if published == "any" else places_of(published)
-            self.compare(
-                asked, answer, lambda: nonobench.check(*pair, published=places)
-            )
+            self.compare(asked, answer, lambda: nonobench.check(*pair, published=places))
             with self.subTest(asked):
                 self.assertEqual(
                     givens_of(lambda: nonobench.check(*pair, published=places)),
@@ -188,9 +178,7 @@ class Answers(unittest.TestCase):
         self.assertEqual(str(said), "certificate accepted, givens 1\n")
         with self.assertRaises(UnpublishedGivenError) as caught:
             nonobench.check(DIAGONAL, GIVEN)
-        self.assertEqual(
-            (caught.exception.name, caught.exception.line), ("UnpublishedGiven", 2)
-        )
+        self.assertEqual((caught.exception.name, caught.exception.line), ("UnpublishedGiven", 2))
         self.assertEqual(
             nonobench.check(DIAGONAL, GIVEN, published=b"given 2 2\ngiven 1 1").givens,
             ((1, 1),),
@@ -206,9 +194,7 @@ class Answers(unittest.TestCase):
                 GivensError, f"^givens {name} at line {line}$"
             ) as refused:
                 nonobench.check(DIAGONAL, GIVEN, published=published)
-            self.assertEqual(
-                (refused.exception.name, refused.exception.line), (name, line)
-            )
+            self.assertEqual((refused.exception.name, refused.exception.line), (name, line))
         again = pickle.loads(pickle.dumps(caught.exception))
         self.assertEqual(
             (again.givens, str(again)),
@@ -219,9 +205,7 @@ class Answers(unittest.TestCase):
         self.assertEqual((caught.exception.name, caught.exception.line), ("Place", 2))
         with self.assertRaises(PictureError) as caught:
             nonobench.check(b"P3 1 1 1 0 0 2", b"")
-        self.assertEqual(
-            (caught.exception.name, caught.exception.byte), ("SampleOver", 13)
-        )
+        self.assertEqual((caught.exception.name, caught.exception.byte), ("SampleOver", 13))
         self.assertEqual(str(caught.exception), "ppm SampleOver at byte 13")
 
     def test_errors(self):
@@ -287,22 +271,14 @@ class Answers(unittest.TestCase):
     def test_clues(self):
         clues = nonobench.clues(b"P3 3 1 2 1 0 0 0 1 0 0 1 0")
         self.assertEqual(clues.rows, ((Block(1, "a"), Block(2, "b")),))
-        self.assertEqual(
-            clues.columns, ((Block(1, "a"),), (Block(1, "b"),), (Block(1, "b"),))
-        )
+        self.assertEqual(clues.columns, ((Block(1, "a"),), (Block(1, "b"),), (Block(1, "b"),)))
         self.assertEqual(nonobench.clues(b"P3 1 1 1 0 0 0", (0, 0, 0)).rows, ((),))
 
     def test_verdict(self):
         verdict = nonobench.verdict(DIAGONAL)
-        self.assertEqual(
-            (verdict.ruling, verdict.other), (Ruling.AMBIGUOUS, (".a", "a."))
-        )
-        self.assertEqual(
-            nonobench.verdict(b"P3 1 1 1 0 0 0", allowance=0).ruling, Ruling.UNIQUE
-        )
-        self.assertEqual(
-            nonobench.verdict(DIAGONAL, 99999, (0, 0, 0)).ruling, Ruling.AMBIGUOUS
-        )
+        self.assertEqual((verdict.ruling, verdict.other), (Ruling.AMBIGUOUS, (".a", "a.")))
+        self.assertEqual(nonobench.verdict(b"P3 1 1 1 0 0 0", allowance=0).ruling, Ruling.UNIQUE)
+        self.assertEqual(nonobench.verdict(DIAGONAL, 99999, (0, 0, 0)).ruling, Ruling.AMBIGUOUS)
 
     def test_certify_and_audit(self):
         tile, pair = b"P3 1 1 1 0 0 0", picture_of("ab/.b")
@@ -321,9 +297,7 @@ class Answers(unittest.TestCase):
             (Ruling.AMBIGUOUS, (".a", "a."), None),
         )
         # By its background this picture has no cell that is filled in.
-        self.assertEqual(
-            nonobench.audit(tile, background=(0, 0, 0)).verdict.ruling, Ruling.UNIQUE
-        )
+        self.assertEqual(nonobench.audit(tile, background=(0, 0, 0)).verdict.ruling, Ruling.UNIQUE)
         for call in (nonobench.certify, nonobench.audit):
             with self.assertRaisesRegex(PictureError, "^ppm NotP3 at byte 0$"):
                 call(b"P4")
@@ -353,9 +327,7 @@ class Answers(unittest.TestCase):
                 nonobench.check(DIAGONAL, text, published=ANY_GIVEN)
         with self.assertRaises(UnpublishedGivenError) as caught:
             nonobench.check(DIAGONAL, b"nonolemma" + b" 1" + GIVEN[10:])
-        self.assertEqual(
-            (caught.exception.line, caught.exception.givens), (2, ((1, 1),))
-        )
+        self.assertEqual((caught.exception.line, caught.exception.givens), (2, ((1, 1),)))
         # By its background this picture has no cell that is filled in.
         self.assertEqual(nonobench.prove(tile, (0, 0, 0)).ruling, Ruling.UNIQUE)
         with self.assertRaisesRegex(PictureError, "^ppm NotP3 at byte 0$"):
@@ -365,9 +337,7 @@ class Answers(unittest.TestCase):
                 nonobench.prove(tile, **wrong)
         for published in ((), b" " * 16777217):
             with self.assertRaises(LengthError):
-                nonobench.check(
-                    tile, b"" if published else b" " * 16777217, published=published
-                )
+                nonobench.check(tile, b"" if published else b" " * 16777217, published=published)
 
     def test_prove_with_published_cells(self):
         """The diagonal has one solution with its first cell given. The certificate names just
@@ -376,9 +346,7 @@ class Answers(unittest.TestCase):
             for how in ({}, {"format": 1}, {"complete": True}):
                 proved = nonobench.prove(DIAGONAL, published=published, **how)
                 self.assertIs(proved.ruling, Ruling.UNIQUE)
-                result = nonobench.check(
-                    DIAGONAL, proved.certificate, published=published
-                )
+                result = nonobench.check(DIAGONAL, proved.certificate, published=published)
                 self.assertEqual(result.givens, ((1, 1),))
         with self.assertRaisesRegex(GivensError, "^givens Place at line 2$"):
             nonobench.prove(DIAGONAL, published=[(1, 1), (1, 3)])
@@ -387,13 +355,10 @@ class Answers(unittest.TestCase):
         """More of them are not looked at: no right certificate names more, and a wrong one is
         refused as before."""
         whole, head = picture_of("/".join(["a." * 60] * 120)), b"nonolemma 1\n"
-        cells = tuple(
-            (row, column) for row in range(1, 121) for column in range(1, 121)
-        )
+        cells = tuple((row, column) for row in range(1, 121) for column in range(1, 121))
         lines = b"".join(b"given %d %d\n" % cell for cell in cells)
         self.assertTrue(
-            nonobench.assess(whole, head + lines + b"done\n", published=ANY_GIVEN).named
-            == cells
+            nonobench.assess(whole, head + lines + b"done\n", published=ANY_GIVEN).named == cells
         )
         for more in (b"given 1 1\n", b"given 121 1\n"):
             wrong = head + lines + more * 9 + b"done\n"
@@ -424,9 +389,7 @@ class Answers(unittest.TestCase):
         right = nonobench.prove(picture).certificate
         for at in range(len(right)):
             text = (
-                right[:at]
-                + source.choice([b"", b" ", b"0", b"7", b"x", b"\n\n"])
-                + right[at + 1 :]
+                right[:at] + source.choice([b"", b" ", b"0", b"7", b"x", b"\n\n"]) + right[at + 1 :]
             )
             try:
                 self.assertEqual(nonobench.check(picture, text).givens, ())
@@ -524,26 +487,16 @@ class Answers(unittest.TestCase):
             with self.subTest(words), self.assertRaisesRegex(
                 (TypeError, ValueError), f"^{name} must be a whole number from 1 to "
             ):
-                nonobench.picture_of(
-                    columns, rows, [(0, 0, 0)] * int(columns * rows), *maxval
-                )
+                nonobench.picture_of(columns, rows, [(0, 0, 0)] * int(columns * rows), *maxval)
         self.assertRaises(TypeError, nonobench.picture_of, 1, 1, [(0, 0, 0.5)])
 
     def test_a_copy_of_any_given(self):
         """As it comes out of a task queue."""
         copied = pickle.loads(pickle.dumps(ANY_GIVEN))
-        self.assertEqual(
-            nonobench.check(DIAGONAL, GIVEN, published=copied).givens, ((1, 1),)
-        )
-        self.assertEqual(
-            nonobench.assess(DIAGONAL, GIVEN, published=copied).named, ((1, 1),)
-        )
-        with self.assertRaisesRegex(
-            CertificateError, "^certificate NotDone at line 3$"
-        ):
-            nonobench.assess(
-                DIAGONAL, b"nonocert 2\ngiven 1 1\ndone\n", published=copied
-            )
+        self.assertEqual(nonobench.check(DIAGONAL, GIVEN, published=copied).givens, ((1, 1),))
+        self.assertEqual(nonobench.assess(DIAGONAL, GIVEN, published=copied).named, ((1, 1),))
+        with self.assertRaisesRegex(CertificateError, "^certificate NotDone at line 3$"):
+            nonobench.assess(DIAGONAL, b"nonocert 2\ngiven 1 1\ndone\n", published=copied)
 
     def test_long_text(self):
         rows = ["a." * 60, ".a" * 60] * 60
@@ -565,10 +518,7 @@ class Answers(unittest.TestCase):
                 "it begins with a byte order mark, and must begin with its first word",
             ),
             *((text.encode(coding), utf_16) for coding in ("utf-16-le", "utf-16-be")),
-            *(
-                (("\ufeff" + text).encode(coding), utf_16)
-                for coding in ("utf-16-le", "utf-16-be")
-            ),
+            *((("\ufeff" + text).encode(coding), utf_16) for coding in ("utf-16-le", "utf-16-be")),
             (b"", ""),
             (b"nonocert 3\n", ""),
             (b"nonocert 3\nline r 1\r\n", ""),
@@ -608,8 +558,7 @@ class Answers(unittest.TestCase):
         threads = [
             threading.Thread(
                 target=lambda: answers.extend(
-                    str(nonobench.check(DIAGONAL, GIVEN, published=ANY_GIVEN))
-                    for _ in range(500)
+                    str(nonobench.check(DIAGONAL, GIVEN, published=ANY_GIVEN)) for _ in range(500)
                 )
             )
             for _ in range(4)
@@ -623,9 +572,7 @@ class Answers(unittest.TestCase):
     def test_colours_as_they_are_shown(self):
         # Half of a step is rounded up, whatever the number above it.
         self.assertEqual(nonobench.colour_shown((1, 3, 5), 510), (1, 2, 3))
-        self.assertEqual(
-            nonobench.colour_shown((0, 32767, 65535), 65535), (0, 127, 255)
-        )
+        self.assertEqual(nonobench.colour_shown((0, 32767, 65535), 65535), (0, 127, 255))
         self.assertEqual(nonobench.colour_shown((0, 1, 1), 1), (0, 255, 255))
         for colour, maxval, why in (
             ((0, 0, 0), 0, "maxval must be"),
@@ -633,9 +580,7 @@ class Answers(unittest.TestCase):
             ((1, 2, 3), 2, "colour must be"),
             ((1, 2), 2, "colour must be"),
         ):
-            self.assertRaisesRegex(
-                ValueError, why, nonobench.colour_shown, colour, maxval
-            )
+            self.assertRaisesRegex(ValueError, why, nonobench.colour_shown, colour, maxval)
 
     def test_version(self):
         """That of the header, or of an older release that is tried."""
@@ -668,16 +613,10 @@ class Chance(unittest.TestCase):
     def test_program(self):
         source = random.Random(int(os.environ.get("SEED", "1")))
         accepted = refused = ambiguous = published = 0
-        for _ in range(
-            int(os.environ.get("CASES", "300" if os.environ.get("SHORT") else "1000"))
-        ):
+        for _ in range(int(os.environ.get("CASES", "300" if os.environ.get("SHORT") else "1000"))):
             picture = marred(chance_picture(source), source, 4)
             background = source.choice([None, None, (0, 0, 0), (7, 80, 7)])
-            words = (
-                []
-                if background is None
-                else ["--background", ",".join(map(str, background))]
-            )
+            words = [] if background is None else ["--background", ",".join(map(str, background))]
             self.put("picture", picture)
             answer = self.run_program(
                 ["work", "picture", *words],
@@ -685,9 +624,7 @@ class Chance(unittest.TestCase):
             )
             with self.subTest(picture=picture, background=background):
                 if answer[2] != 0:
-                    self.assertEqual(
-                        told(lambda: nonobench.clues(picture, background)), answer
-                    )
+                    self.assertEqual(told(lambda: nonobench.clues(picture, background)), answer)
                     refused += 1
                     continue
                 verdict, clues, certificate = parts_of(answer[0])
@@ -697,9 +634,7 @@ class Chance(unittest.TestCase):
                 proved = nonobench.prove(picture, background)
                 answer = self.run_program(["prove", "picture", *words])
                 self.assertEqual(
-                    (
-                        proved.certificate or proved.ruling.value.encode() + b"\n"
-                    ).decode(),
+                    (proved.certificate or proved.ruling.value.encode() + b"\n").decode(),
                     answer[0],
                 )
                 certificate = marred(
@@ -708,11 +643,7 @@ class Chance(unittest.TestCase):
                 self.put("cert", certificate)
                 answer = self.run_program(["check", "picture", "cert", *words])
                 self.assertEqual(
-                    told(
-                        lambda: nonobench.check(
-                            picture, certificate, background, ANY_GIVEN
-                        )
-                    ),
+                    told(lambda: nonobench.check(picture, certificate, background, ANY_GIVEN)),
                     answer,
                 )
                 accepted += answer[2] == 0
@@ -725,11 +656,7 @@ class Chance(unittest.TestCase):
                     ["check", "--givens", "givens", "picture", "cert", *words]
                 )
                 self.assertEqual(
-                    told(
-                        lambda: nonobench.check(
-                            picture, certificate, background, givens
-                        )
-                    ),
+                    told(lambda: nonobench.check(picture, certificate, background, givens)),
                     answer,
                 )
                 published += answer[2] == 0
@@ -750,9 +677,7 @@ def chance_picture(source):
     return nonobench.picture_of(
         columns,
         rows,
-        source.choices(
-            triples, [source.randint(1, 4)] + [1] * colours, k=rows * columns
-        ),
+        source.choices(triples, [source.randint(1, 4)] + [1] * colours, k=rows * columns),
     )
 
 
@@ -761,9 +686,7 @@ def marred(text, source, one_of):
     if not text or source.randrange(one_of):
         return text
     at = source.randrange(len(text))
-    return (
-        text[:at] + source.choice([b"", b" ", b"0", b"7", b"\n", b"x"]) + text[at + 1 :]
-    )
+    return text[:at] + source.choice([b"", b" ", b"0", b"7", b"\n", b"x"]) + text[at + 1 :]
 
 
 def parts_of(out):

@@ -65,9 +65,7 @@ class Puzzles(unittest.TestCase):
         png = self.one(image("PNG"))
         self.assertEqual((cells_of(png), png[1:]), (cells, (WHITE, (), "")))
         # No cell is white, and the corners agree.
-        dark = self.one(
-            image("PNG", pixels=[BLACK] * 4 + [RED] + [BLACK] * 4, size=(3, 3))
-        )
+        dark = self.one(image("PNG", pixels=[BLACK] * 4 + [RED] + [BLACK] * 4, size=(3, 3)))
         self.assertEqual(dark.background, BLACK)
         grey = self.one(b"P2 2 1 255 0 255")
         self.assertEqual((cells_of(grey), grey.background), ([BLACK, WHITE], WHITE))
@@ -84,9 +82,7 @@ class Puzzles(unittest.TestCase):
         puzzle = self.one(webpbn(AMBIGUOUS, "A &lt;b&gt; title", SAVED).encode())
         self.assertEqual(cells_of(puzzle), [BLACK, WHITE, WHITE, BLACK])
         self.assertEqual(puzzle[1:], (WHITE, (Given(1, 1),), "A <b> title"))
-        several = (
-            f"<puzzleset>{webpbn(UNIQUE, 'One')}{webpbn(UNIQUE, 'Two')}</puzzleset>"
-        )
+        several = f"<puzzleset>{webpbn(UNIQUE, 'One')}{webpbn(UNIQUE, 'Two')}</puzzleset>"
         titles = [one.title for one in nonobench.puzzles_of(several.encode())]
         self.assertEqual(titles, ["One", "Two"])
         # Clues alone, in two colours.
@@ -147,9 +143,7 @@ class Puzzles(unittest.TestCase):
                 stdout=subprocess.PIPE,
                 check=True,
             )
-            self.assertTrue(
-                done.stdout.decode().startswith(f"{library}, is not installed")
-            )
+            self.assertTrue(done.stdout.decode().startswith(f"{library}, is not installed"))
 
 
 class NonTexts(unittest.TestCase):
@@ -177,25 +171,19 @@ class NonTexts(unittest.TestCase):
             nonobench.assess(GOAL, non=False)
         with self.assertRaisesRegex(nonobench.PictureError, "^non MissingSize$"):
             nonobench.assess(p3(UNIQUE), non=True)
-        with self.assertRaisesRegex(
-            nonobench.PictureError, "^ppm BadNumber at byte 3$"
-        ):
+        with self.assertRaisesRegex(nonobench.PictureError, "^ppm BadNumber at byte 3$"):
             nonobench.verdict(b"P3\nrows\n")
 
     def test_an_audit(self):
         """Without an ending in its name, too; an image stays one."""
         for name in ("from a database", "x.non", "x.ppm"):
             row = judge([Question(name, CLUES)])[0].row
-            self.assertEqual(
-                (row["verdict"], row["background"]), ("ambiguous", "ffffff")
-            )
+            self.assertEqual((row["verdict"], row["background"]), ("ambiguous", "ffffff"))
         words = PngInfo()
         words.add_text("Comment", "a\ntitle b\n")
         row = judge([Question("x", image("PNG", pnginfo=words))])[0].row
         self.assertEqual(row["verdict"], "unique")
-        self.assertIn(
-            "non MissingSize", judge([Question("x.non", b"junk")])[0].row["error"]
-        )
+        self.assertIn("non MissingSize", judge([Question("x.non", b"junk")])[0].row["error"])
 
 
 if __name__ == "__main__":

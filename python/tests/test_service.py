@@ -50,10 +50,7 @@ def file_of(name):
 
 def asked(client, path, **fields):
     """The status of a request, and its answer. A field is a file of the examples, or a text."""
-    data = {
-        field: file_of(value) if value in NAMES else value
-        for field, value in fields.items()
-    }
+    data = {field: file_of(value) if value in NAMES else value for field, value in fields.items()}
     answer = client.post(path, data=data, content_type="multipart/form-data")
     assert answer.mimetype == "application/json"
     return answer.status_code, answer.get_json()
@@ -99,9 +96,7 @@ def test_backgrounds(client):
         files = {"puzzle": (io.BytesIO(data), "one.png")}
         if named:
             files["background"] = named.decode()
-        row = client.post(
-            "/assess", data=files, content_type="multipart/form-data"
-        ).get_json()
+        row = client.post("/assess", data=files, content_type="multipart/form-data").get_json()
         if refused:
             assert f"the image is refused: {refused} (" in row["error"], name
         else:
@@ -114,9 +109,7 @@ def test_what_a_strangers_xml_names_is_not_believed(client):
     assert row["error"] == "its background 0,0,0 is not believed: name it"
     row = row_of(client, "/assess", puzzle=XML, background="0,0,0")
     assert "givens" not in row and row["ignored"] == ["givens in the XML"]
-    row = row_of(
-        client, "/assess", puzzle=XML, background="0,0,0", givens="given 1 2\n"
-    )
+    row = row_of(client, "/assess", puzzle=XML, background="0,0,0", givens="given 1 2\n")
     assert (row["verdict"], row["background"], row["givens"]) == (
         "unique",
         "000000",
@@ -142,9 +135,7 @@ def test_a_certificate_is_made(client):
         row["certificate_text"],
         (EXAMPLES / "heart.ppm").read_bytes(),
     )
-    assert (
-        str(nonobench.check(picture, certificate.encode())) == "certificate accepted\n"
-    )
+    assert str(nonobench.check(picture, certificate.encode())) == "certificate accepted\n"
     assert "certificate_text" not in row_of(client, "/prove", puzzle="given.ppm")
 
 
@@ -164,10 +155,7 @@ def test_requests_without_a_row(client, library):
     for path, method, status in (("/assess", "get", 405), ("/", "get", 404)):
         answer = getattr(client, method)(path)
         assert (answer.status_code, list(answer.get_json())) == (status, ["error"])
-    assert (
-        client.post("/assess", headers={"Transfer-Encoding": "chunked"}).status_code
-        == 411
-    )
+    assert client.post("/assess", headers={"Transfer-Encoding": "chunked"}).status_code == 411
     with served(MAX_CONTENT_LENGTH=1000) as small:
         assert asked(small, "/assess", puzzle=CROSS)[0] == 200
         assert asked(small, "/assess", puzzle="heart.ppm", givens=" " * 1000)[0] == 413
@@ -188,9 +176,7 @@ def test_health(client):
 
 
 def test_a_picture_as_png():
-    image = Image.open(
-        io.BytesIO(png_of(["a.b", "..a"], ["ffffff", "c80000", "000028"]))
-    )
+    image = Image.open(io.BytesIO(png_of(["a.b", "..a"], ["ffffff", "c80000", "000028"])))
     red, white, blue = (200, 0, 0), (255, 255, 255), (0, 0, 40)
     assert list(image.convert("RGB").getdata()) == [red, white, blue, white, white, red]
 

@@ -45,9 +45,7 @@ class Reading(Case):
     def test_goals(self):
         wanted = ("a./.b", ["ffffff", "000000", "ff0000"], "XML")
         self.assertEqual(self.shown(webpbn(UNIQUE)), wanted)
-        self.assertEqual(
-            row_of(webpbn(UNIQUE, "A &lt;b&gt; title"))["title"], "A <b> title"
-        )
+        self.assertEqual(row_of(webpbn(UNIQUE, "A &lt;b&gt; title"))["title"], "A <b> title")
         # One goal twice, beside a solution that is none.
         goal = "<solution><image>|X.||.r|</image></solution>"
         other = '<solution type="solution"><image>|.X||r.|</image></solution>'
@@ -84,9 +82,7 @@ class Reading(Case):
             )
         )
         text = f"<puzzle>{colours}<solution><image>|abcd|</image></solution></puzzle>"
-        self.assertEqual(
-            self.shown(text)[1], ["ffffff", "100000", "100001", "100002", "100003"]
-        )
+        self.assertEqual(self.shown(text)[1], ["ffffff", "100000", "100001", "100002", "100003"])
 
     def test_clues_only(self):
         clues = (
@@ -97,16 +93,12 @@ class Reading(Case):
             self.shown(f"<puzzle>{clues}</puzzle>"), ("a.", ["ffffff", "000000"], "XML")
         )
         white = 'backgroundcolor="black" defaultcolor="white"'
-        self.assertEqual(
-            self.shown(f"<puzzle {white}>{clues}</puzzle>")[1], ["000000", "ffffff"]
-        )
+        self.assertEqual(self.shown(f"<puzzle {white}>{clues}</puzzle>")[1], ["000000", "ffffff"])
         two = clues.replace(
             "<count>1</count></line></clues>",
             '<count color="red">1</count></line></clues>',
         )
-        self.assertRegex(
-            self.shown(f"<puzzle>{two}</puzzle>"), "several colours and no solution"
-        )
+        self.assertRegex(self.shown(f"<puzzle>{two}</puzzle>"), "several colours and no solution")
         given = f"<puzzle>{clues}{SAVED.format('givens', '?')}</puzzle>"
         self.assertEqual(self.shown(given), "the puzzle has givens and no solution")
         for part in ({"givens": b"given 1 1\n"}, {"background": b"white"}):
@@ -117,9 +109,7 @@ class Reading(Case):
 
     def test_backgrounds_that_are_named(self):
         row = row_of(webpbn(UNIQUE), background=b"255,0,0")
-        self.assertEqual(
-            (row["background"], row["background_from"]), ("ff0000", "named")
-        )
+        self.assertEqual((row["background"], row["background_from"]), ("ff0000", "named"))
 
     def test_as_the_page_writes_it(self):
         # Two colours, a black given, and clues.
@@ -179,9 +169,7 @@ class Reading(Case):
             ),
             (webpbn(UNIQUE, more=OTHER_GOAL), SEVERAL),
             (
-                webpbn(UNIQUE)
-                .replace('"goal"', '"solution"')
-                .replace("</puzzle>", second),
+                webpbn(UNIQUE).replace('"goal"', '"solution"').replace("</puzzle>", second),
                 SEVERAL,
             ),
             (
@@ -219,9 +207,7 @@ class Texts(Case):
             "<solution{}><image>{}</image></solution>".format(*words)
             for words in ((" xmlns='x'", "|X.||.X|"), ("", "|XX||.X|"))
         )
-        laughs = "".join(
-            f'<!ENTITY a{at} "{f"&a{at - 1};" * 10}">' for at in range(1, 10)
-        )
+        laughs = "".join(f'<!ENTITY a{at} "{f"&a{at - 1};" * 10}">' for at in range(1, 10))
         own = "the XML has declarations of its own"
         for text, why in (
             (typed + webpbn(UNIQUE), ""),
@@ -238,8 +224,7 @@ class Texts(Case):
             (webpbn(UNIQUE, "\xe9").encode("latin-1"), "the XML is not UTF-8"),
             (f'<!DOCTYPE a [<!ENTITY a "ha">{laughs}]>' + webpbn(UNIQUE, "&a9;"), own),
             (
-                '<!DOCTYPE a [<!ENTITY a SYSTEM "file:///etc/passwd">]>'
-                + webpbn(UNIQUE, "&a;"),
+                '<!DOCTYPE a [<!ENTITY a SYSTEM "file:///etc/passwd">]>' + webpbn(UNIQUE, "&a;"),
                 own,
             ),
             ('<!DOCTYPE a [<!ATTLIST a b CDATA "c">]>' + webpbn(UNIQUE), own),
@@ -257,9 +242,7 @@ class Texts(Case):
             ),
         ):
             with self.subTest(text[:60]):
-                self.assertRegex(
-                    row_of(text).get("error", ""), f"^{why}" if why else "^$"
-                )
+                self.assertRegex(row_of(text).get("error", ""), f"^{why}" if why else "^$")
 
     def test_a_set(self):
         puzzles = [
@@ -275,9 +258,7 @@ class Texts(Case):
         self.assertEqual(done.stdout, "3 puzzles in out\n")
         rows = self.rows("out", status=1)
         self.assertEqual(list(rows), ["set-1.xml", "set-2.xml", "set-3.xml"])
-        self.assertEqual(
-            [row.get("title") for row in rows.values()], ["One", "Two \xe9", None]
-        )
+        self.assertEqual([row.get("title") for row in rows.values()], ["One", "Two \xe9", None])
         self.assertEqual([row["fit"] for row in rows.values()], [True, True, False])
         self.assertEqual(rows["set-2.xml"]["givens"], [[1, 1]])
         self.run_audit("unpack", "site/set.xml", "out", status=2)
@@ -303,8 +284,6 @@ class Texts(Case):
         self.assertEqual((row["verdict"], row["picture"]), ("unique", "a./.a"))
         self.assertIn("NoGoal", row_of(clues, "x.non", givens=b"given 1 1\n")["error"])
         row = row_of(clues, "x.non", background=b"0,0,0")
-        self.assertEqual(
-            row["error"], "its background is white, as of each .non puzzle"
-        )
+        self.assertEqual(row["error"], "its background is white, as of each .non puzzle")
         none = row_of("width 1\nheight 1\nrows\n1\ncolumns\n0\n", "x.non")
         self.assertEqual((none["verdict"], none["fit"]), ("error", False))

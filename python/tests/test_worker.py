@@ -33,9 +33,7 @@ from nonobench import (  # noqa: E402
 )
 
 PACKAGE = Path(nonobench.__file__).resolve().parent.parent
-LIBRARY = Path(
-    os.environ.get("NONOBENCH_LIBRARY", PACKAGE / "nonobench" / "libnonobench.so")
-)
+LIBRARY = Path(os.environ.get("NONOBENCH_LIBRARY", PACKAGE / "nonobench" / "libnonobench.so"))
 # Two rows, black and white, white and black: another picture has the clues, and a given decides it.
 DIAGONAL = b"P3 2 2 255 0 0 0 255 255 255 255 255 255 0 0 0\n"
 GIVEN = b"nonocert 2\ngiven 1 1\nline r 1\nline c 1\nline r 2\ndone\n"
@@ -88,16 +86,12 @@ class Workers(unittest.TestCase):
                 worker.check(DIAGONAL, LEMMAS, published=[(1, 3)])
             with self.assertRaises(UnpublishedGivenError) as caught:
                 worker.check(DIAGONAL, LEMMAS)
-            self.assertEqual(
-                (caught.exception.line, caught.exception.givens), (2, (Given(1, 1),))
-            )
+            self.assertEqual((caught.exception.line, caught.exception.givens), (2, (Given(1, 1),)))
             with self.assertRaises(LengthError):
                 worker.check(DIAGONAL, LEMMAS.ljust(16777217))
             with self.assertRaises(CertificateError) as caught:
                 worker.check(DIAGONAL, b"")
-            self.assertEqual(
-                (caught.exception.name, caught.exception.line), ("NotCert", 1)
-            )
+            self.assertEqual((caught.exception.name, caught.exception.line), ("NotCert", 1))
             with self.assertRaisesRegex(PictureError, "^ppm NotP3 at byte 0$"):
                 worker.clues(b"")
             with self.assertRaises(ValueError):
@@ -119,9 +113,7 @@ class Workers(unittest.TestCase):
             with self.assertRaises(TimeoutError):
                 worker.verdict(ENDLESS)
             found = None
-            while (
-                not found
-            ):  # a process that starts may itself need more than two seconds
+            while not found:  # a process that starts may itself need more than two seconds
                 with contextlib.suppress(TimeoutError):
                     found = worker.clues(DIAGONAL)
             self.assertEqual(found, nonobench.clues(DIAGONAL))
@@ -158,9 +150,7 @@ class Workers(unittest.TestCase):
         with nonobench.Worker(seconds=300, memory=40 << 20) as worker:
             with self.assertRaises(MemoryError):
                 worker.check(DIAGONAL, b" " * 16777216)
-        with nonobench.Worker(seconds=300) as worker, self.assertRaises(
-            CertificateError
-        ):
+        with nonobench.Worker(seconds=300) as worker, self.assertRaises(CertificateError):
             worker.check(DIAGONAL, b" " * 16777216)
         # The answer alone takes more than there is.
         for memory in (1, 20):
@@ -179,9 +169,7 @@ class Workers(unittest.TestCase):
                 with self.assertRaisesRegex(MemoryError, "^the worker ended$"):
                     worker.check(DIAGONAL, b" " * 16777216)
                 self.assertEqual(worker.clues(DIAGONAL), nonobench.clues(DIAGONAL))
-        with nonobench.Worker(
-            seconds=300, processor=1
-        ) as worker, self.assertRaisesRegex(
+        with nonobench.Worker(seconds=300, processor=1) as worker, self.assertRaisesRegex(
             TimeoutError, "^no answer within its processor time$"
         ):
             worker.verdict(ENDLESS)
@@ -251,9 +239,7 @@ class Workers(unittest.TestCase):
         with nonobench.Worker(seconds=1) as worker:
 
             def ask():
-                with self.assertRaisesRegex(
-                    TimeoutError, "^no answer within 1 seconds$"
-                ):
+                with self.assertRaisesRegex(TimeoutError, "^no answer within 1 seconds$"):
                     worker.verdict(ENDLESS)
                 ended.append(time.monotonic())
 
@@ -268,9 +254,7 @@ class Workers(unittest.TestCase):
 
     def test_a_program_that_is_no_python(self):
         for program in ("", None, "/bin/true", "/bin/sh"):
-            with self.subTest(program), unittest.mock.patch.object(
-                sys, "executable", program
-            ):
+            with self.subTest(program), unittest.mock.patch.object(sys, "executable", program):
                 with self.assertRaisesRegex(
                     OSError,
                     f"^a Worker needs a Python in sys.executable, and not {program!r}$",
@@ -418,9 +402,7 @@ class Interrupts(unittest.TestCase):
             if child == 0:
                 try:
                     own = only_child(lambda: worker.verdict(TILE))
-                    is_good = own != pid and worker.clues(DIAGONAL) == nonobench.clues(
-                        DIAGONAL
-                    )
+                    is_good = own != pid and worker.clues(DIAGONAL) == nonobench.clues(DIAGONAL)
                     worker.close()
                     os._exit(0 if is_good else 1)
                 finally:
@@ -557,9 +539,7 @@ class Folders(unittest.TestCase):
                 (run.stdout, run.stderr),
                 (f"{nonobench.clues(DIAGONAL)}{1 << 30}\n", ""),
             )
-            self.assertFalse(
-                mark.exists(), mark.exists() and mark.read_text(encoding="utf-8")
-            )
+            self.assertFalse(mark.exists(), mark.exists() and mark.read_text(encoding="utf-8"))
 
     def test_a_library_that_is_named_from_the_current_folder(self):
         with tempfile.TemporaryDirectory() as folder, tempfile.TemporaryDirectory() as other:
@@ -586,9 +566,7 @@ class Folders(unittest.TestCase):
                     check=False,
                     env={**os.environ, "NONOBENCH_LIBRARY": named},
                 )
-                self.assertEqual(
-                    (run.stdout, run.stderr), (str(nonobench.clues(DIAGONAL)), "")
-                )
+                self.assertEqual((run.stdout, run.stderr), (str(nonobench.clues(DIAGONAL)), ""))
 
 
 if __name__ == "__main__":

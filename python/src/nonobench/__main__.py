@@ -26,9 +26,7 @@ OFFERS = """
 def main() -> None:
     """Prints it."""
     print(f"nonobench {nonobench.version()}, of {nonobench._library.PATH}\n{OFFERS}")
-    recipes = os.path.join(
-        sysconfig.get_path("data"), "share/doc/nonobench/docs/RECIPES.md"
-    )
+    recipes = os.path.join(sysconfig.get_path("data"), "share/doc/nonobench/docs/RECIPES.md")
     if os.path.isfile(recipes):
         print(f"  recipes: {recipes}\n")
     for name, module, use in LIBRARIES:

@@ -229,9 +229,7 @@ class Assessment:
     flaws: tuple[Flaw, ...]
     is_fit: bool
     text: str
-    named: tuple[
-        Given, ...
-    ] = ()  # the givens that the certificate names, where one is passed
+    named: tuple[Given, ...] = ()  # the givens that the certificate names, where one is passed
 
 
 FLAW_KINDS = ("blank", "background", "given", "alike", "any")
@@ -240,11 +238,7 @@ FLAW_KINDS = ("blank", "background", "given", "alike", "any")
 def refused_flaws(flaws: Iterable[str], kinds: Iterable[str]) -> list[str]:
     """The flaws, by their words, that somebody refuses who allows some kinds."""
     allowed = {*kinds}
-    return (
-        []
-        if "any" in allowed
-        else [flaw for flaw in flaws if flaw.split(" ")[0] not in allowed]
-    )
+    return [] if "any" in allowed else [flaw for flaw in flaws if flaw.split(" ")[0] not in allowed]
 
 
 class Puzzle(NamedTuple):

@@ -39,9 +39,7 @@ MOST_CELLS = 120  # of a side
 MOST_SAMPLE = 65535
 
 # What a line of a .non text begins with, in the front of the file, and how a picture does.
-_WORD = re.compile(
-    rb"^[ \t]*(?:width|height|rows|columns|goal|catalogue|title)\b", re.MULTILINE
-)
+_WORD = re.compile(rb"^[ \t]*(?:width|height|rows|columns|goal|catalogue|title)\b", re.MULTILINE)
 _FRONT = 65536
 _PICTURE = re.compile(rb"P3[\s#]")
 
@@ -114,9 +112,7 @@ class Questions:
         if format not in (1, 2):
             raise ValueError("format must be 1 or 2")
         how = b"%d %d" % (bool(complete), format)
-        return proved_of(
-            self._ask(PROVE, bytes_of(picture), background, how, givens)[0]
-        )
+        return proved_of(self._ask(PROVE, bytes_of(picture), background, how, givens)[0])
 
     def assess(
         self,
@@ -134,12 +130,8 @@ class Questions:
         the search for another solution. The allowance is how many splits the search of a part may
         make: 10,000 without one, or 0 to 99,999, or "off" for no bound.
         """
-        puzzle, by = bytes_of(puzzle), None if certificate is None else bytes_of(
-            certificate
-        )
-        givens = _file_of(
-            givens_of(by or b"") if isinstance(published, AnyGiven) else published
-        )
+        puzzle, by = bytes_of(puzzle), None if certificate is None else bytes_of(certificate)
+        givens = _file_of(givens_of(by or b"") if isinstance(published, AnyGiven) else published)
         bound = _bound(allowance)
         if non is None:
             non = is_non(puzzle)
@@ -174,13 +166,9 @@ class Questions:
         the search has no bound, and may take very long; `Worker` limits the time. Raises ValueError
         for another allowance.
         """
-        return verdict_of(
-            self._say(picture, background, _allow(allowance) + b"verdict\n")[-1]
-        )
+        return verdict_of(self._say(picture, background, _allow(allowance) + b"verdict\n")[-1])
 
-    def certify(
-        self, picture: Bytes, background: Optional[Colour] = None
-    ) -> Optional[bytes]:
+    def certify(self, picture: Bytes, background: Optional[Colour] = None) -> Optional[bytes]:
         """A certificate of a picture, without givens, or None if another picture has its clues. It
         may take very long."""
         text = self._say(picture, background, b"certify\n")[-1]
@@ -197,16 +185,12 @@ class Questions:
 
         The allowance bounds the verdict, as in `verdict`; making the certificate has no bound.
         """
-        texts = self._say(
-            picture, background, _allow(allowance) + b"verdict\ncertify\n"
-        )
+        texts = self._say(picture, background, _allow(allowance) + b"verdict\ncertify\n")
         if texts[-1].startswith(b"nonocert "):
             return Audit(verdict_of(texts[-2]), texts[-1])
         return Audit(verdict_of(texts[-1]))
 
-    def puzzles_of(
-        self, data: Bytes, background: Optional[Colour] = None
-    ) -> list[Puzzle]:
+    def puzzles_of(self, data: Bytes, background: Optional[Colour] = None) -> list[Puzzle]:
         """The puzzles of a file, of every kind that nonobench-audit reads (docs/AUDIT.md): P3,
         which stays as it is, other Netpbm images, PNG, .non and XML, which may have several.
 
@@ -284,9 +268,7 @@ assess, check, clues, verdict, certify, audit = (
 prove, puzzles_of = _here.prove, _here.puzzles_of
 
 
-def picture_of(
-    columns: int, rows: int, triples: Iterable[Colour], maxval: int = 255
-) -> bytes:
+def picture_of(columns: int, rows: int, triples: Iterable[Colour], maxval: int = 255) -> bytes:
     """A P3 text of cells by rows, each a red, a green and a blue from 0 to maxval. ValueError names
     what the reader would refuse."""
     cells = [(*map(operator.index, cell),) for cell in triples]
@@ -365,9 +347,7 @@ def _allow(allowance: Optional[int]) -> bytes:
     if allowance is None:
         return b""
     if not isinstance(allowance, int):
-        raise TypeError(
-            f"allowance must be a whole number, not {type(allowance).__name__}"
-        )
+        raise TypeError(f"allowance must be a whole number, not {type(allowance).__name__}")
     if not 0 <= allowance <= MOST_ALLOWANCE:
         raise ValueError("allowance must be 0 to 99999")
     return f"allow {allowance:d}\n".encode("ascii")
@@ -378,9 +358,7 @@ def colour_word(colour: Colour) -> bytes:
     return b"%d,%d,%d" % triple_of(colour)
 
 
-def triple_of(
-    colour: Colour, most: int = MOST_SAMPLE, name: str = "background"
-) -> Colour:
+def triple_of(colour: Colour, most: int = MOST_SAMPLE, name: str = "background") -> Colour:
     """A colour as three numbers from 0 to another one."""
     with contextlib.suppress(TypeError, ValueError):
         red, green, blue = map(

@@ -8,17 +8,13 @@ from ._answers import NonobenchError
 
 # What a certificate that begins with these two bytes is.
 _ODD_STARTS = {
-    **dict.fromkeys(
-        (b"\xff\xfe", b"\xfe\xff", b"n\0", b"\0n"), "it is UTF-16, and must be ASCII"
-    ),
+    **dict.fromkeys((b"\xff\xfe", b"\xfe\xff", b"n\0", b"\0n"), "it is UTF-16, and must be ASCII"),
     b"\xef\xbb": "it begins with a byte order mark, and must begin with its first word",
 }
 _CR_LF = "its lines end with CR LF, and must end with LF alone"
 
 
-def hint_of(
-    error: NonobenchError, certificate: Union[bytes, bytearray, memoryview]
-) -> str:
+def hint_of(error: NonobenchError, certificate: Union[bytes, bytearray, memoryview]) -> str:
     """What an editor seems to have done to a certificate that was refused as NotCert, in a few
     words.
 

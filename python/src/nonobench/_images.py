@@ -79,9 +79,7 @@ class Pixels(NamedTuple):
         if self.is_near and _has_near(colours | {WHITE, BLACK, background}):
             _refuse(PROFILE)
         triples = (background if cell is None else cell for cell in self.cells)
-        return picture_of(
-            self.columns, len(self.cells) // self.columns, triples, self.maxval
-        )
+        return picture_of(self.columns, len(self.cells) // self.columns, triples, self.maxval)
 
 
 def colour_shown(colour: Colour, maxval: int) -> Colour:
@@ -90,8 +88,7 @@ def colour_shown(colour: Colour, maxval: int) -> Colour:
     if maxval not in range(1, MOST_SAMPLE + 1):
         raise ValueError(f"maxval must be a whole number from 1 to {MOST_SAMPLE}")
     red, green, blue = (
-        (510 * sample + maxval) // (2 * maxval)
-        for sample in triple_of(colour, maxval, "colour")
+        (510 * sample + maxval) // (2 * maxval) for sample in triple_of(colour, maxval, "colour")
     )
     return red, green, blue
 
@@ -151,9 +148,7 @@ def is_image(data: bytes) -> bool:
 
 def kind_of(data: bytes) -> str:
     """What a file is that is not read; nothing if that is not known."""
-    return next(
-        (kind for kind, sign in OTHERS.items() if re.match(sign, data, re.DOTALL)), ""
-    )
+    return next((kind for kind, sign in OTHERS.items() if re.match(sign, data, re.DOTALL)), "")
 
 
 def prepare() -> None:
@@ -176,9 +171,7 @@ def _bounded(columns: int, rows: int) -> None:
     _need(columns > 0 and rows > 0)
     if columns > MOST_CELLS or rows > MOST_CELLS:
         most = f"{MOST_CELLS} by {MOST_CELLS}"
-        raise ImageError(
-            "a size", f"{columns} by {rows} pixels, and a puzzle has at most {most}"
-        )
+        raise ImageError("a size", f"{columns} by {rows} pixels, and a puzzle has at most {most}")
 
 
 def _has_near(colours: set[Optional[Colour]]) -> bool:
@@ -233,27 +226,21 @@ def _png(data: bytes) -> Pixels:
     _need(depth < 16, DEEP)
     is_near = _is_near_srgb(parts)
     passes = _PASSES if laced else _WHOLE
-    size = sum(
-        _size_of(columns, rows, depth * _CHANNELS[kind], part) for part in passes
-    )
+    size = sum(_size_of(columns, rows, depth * _CHANNELS[kind], part) for part in passes)
     packed = b"".join(body for name, body in chunks if name == b"IDAT")
     # Pillow takes what is missing for black, and a browser for transparent.
     _need(len(zlib.decompressobj().decompress(packed, size)) == size)
     return Pixels(columns, 255, _unpacked(data, depth, parts), is_near, True)
 
 
-def _size_of(
-    columns: int, rows: int, bits: int, part: tuple[int, int, int, int]
-) -> int:
+def _size_of(columns: int, rows: int, bits: int, part: tuple[int, int, int, int]) -> int:
     """The bytes that a pass of the rows has, of which each is behind a byte for its filter."""
     left, top, right, down = part
     wide, high = (columns - left + right - 1) // right, (rows - top + down - 1) // down
     return high * (1 + (wide * bits + 7) // 8) if wide > 0 else 0
 
 
-def _unpacked(
-    data: bytes, depth: int, parts: dict[bytes, bytes]
-) -> list[Optional[Colour]]:
+def _unpacked(data: bytes, depth: int, parts: dict[bytes, bytes]) -> list[Optional[Colour]]:
     """The pixels that Pillow unpacks."""
     from PIL import Image
 
@@ -262,18 +249,13 @@ def _unpacked(
         _need(image.getexif().get(0x112, 1) == 1, TURNED)
         if image.mode == "P":
             _need(image.getextrema()[1] < len(parts[b"PLTE"]) // 3)
-        elif (
-            image.mode in ("1", "L") and b"tRNS" in parts
-        ):  # in the scale of the file's samples
+        elif image.mode in ("1", "L") and b"tRNS" in parts:  # in the scale of the file's samples
             key = struct.unpack(">H", parts[b"tRNS"])[0]
             image.info["transparency"] = key * 255 // ((1 << depth) - 1)
         raw = image.convert("RGBA").tobytes()
     pixels = [raw[at : at + 4] for at in range(0, len(raw), 4)]
     _need({pixel[3] for pixel in pixels} <= {0, 255}, HALF)
-    shown = {
-        pixel: (pixel[0], pixel[1], pixel[2]) if pixel[3] else None
-        for pixel in set(pixels)
-    }
+    shown = {pixel: (pixel[0], pixel[1], pixel[2]) if pixel[3] else None for pixel in set(pixels)}
     return [shown[pixel] for pixel in pixels]
 
 
@@ -327,9 +309,7 @@ def _netpbm(data: bytes) -> Pixels:
     _need(0 < maxval <= MOST_SAMPLE)
     step = 3 if kind == 6 else 1
     if kind > 3:
-        samples = _raw_samples(
-            data[end:], rows, columns * step, 0 if is_bits else maxval
-        )
+        samples = _raw_samples(data[end:], rows, columns * step, 0 if is_bits else maxval)
     else:
         samples = _plain_samples(data[end:], rows * columns, is_bits)
     _need(len(samples) == rows * columns * step and max(samples) <= maxval)

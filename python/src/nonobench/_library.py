@@ -151,11 +151,7 @@ class Desk:
     ) -> int:
         """Checks a certificate of a picture by the file of the givens that are published, or (None)
         one with any givens, and answers the status."""
-        call = (
-            _calls.nonobench_check_any_given
-            if published is None
-            else _calls.nonobench_check
-        )
+        call = _calls.nonobench_check_any_given if published is None else _calls.nonobench_check
         files = (
             (picture, certificate, background)
             if published is None
@@ -205,9 +201,7 @@ class Desk:
             )
         )
 
-    def open(
-        self, puzzle: bytes, background: bytes, non: bool = False
-    ) -> tuple[int, int]:
+    def open(self, puzzle: bytes, background: bytes, non: bool = False) -> tuple[int, int]:
         """Opens a bench on a puzzle: the status and the handle."""
         handle = ctypes.c_uint32()
         status = _calls.nonobench_open(

@@ -29,7 +29,9 @@ serve(int(sys.argv[3]))"""
 # A write to a process that has ended is an error, and no signal.
 NO_SIGNAL = getattr(socket, "MSG_NOSIGNAL", 0)
 ROOM = 1 << 18  # bytes that are taken together
-ENDING = 2.0  # seconds for a process to end: one that reads from files that do not come cannot be ended
+ENDING = (
+    2.0  # seconds for a process to end: one that reads from files that do not come cannot be ended
+)
 
 Made = TypeVar("Made")
 
@@ -115,9 +117,7 @@ class Child:
                 words, stdin=theirs.fileno(), stdout=subprocess.PIPE, env=env, **more
             )
         self.pid, self._owner, self.is_stopped = self._process.pid, os.getpid(), False
-        self.end = weakref.finalize(
-            self, _end, self._process, self._stream, self._owner
-        )
+        self.end = weakref.finalize(self, _end, self._process, self._stream, self._owner)
 
     @property
     def is_sending(self) -> bool:
@@ -183,10 +183,7 @@ class Child:
             found.append(
                 (
                     number,
-                    [
-                        bytes(self._come[at : at + size])
-                        for at, size in zip(places, sizes)
-                    ],
+                    [bytes(self._come[at : at + size]) for at, size in zip(places, sizes)],
                 )
             )
             del self._come[:end]
@@ -225,8 +222,7 @@ def waited(children: Iterable[Child], seconds: float) -> list[Any]:
         for child in children:
             selector.register(
                 child,
-                selectors.EVENT_READ
-                | (selectors.EVENT_WRITE if child.is_sending else 0),
+                selectors.EVENT_READ | (selectors.EVENT_WRITE if child.is_sending else 0),
                 child,
             )
         ready = selector.select(seconds)

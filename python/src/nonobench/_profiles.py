@@ -23,10 +23,7 @@ def is_srgb(profile: bytes) -> bool:
         return (
             profile[16:24] == b"RGB XYZ "
             and not any(name[:3] in (b"A2B", b"B2A", b"D2B") for name in tags)
-            and all(
-                _is_near(_xyz(tags[name]), wanted)
-                for name, wanted in _COLORANTS.items()
-            )
+            and all(_is_near(_xyz(tags[name]), wanted) for name, wanted in _COLORANTS.items())
             and all(_is_srgb_curve(tags[name]) for name in (b"rTRC", b"gTRC", b"bTRC"))
         )
     except (KeyError, IndexError, struct.error, ArithmeticError, ValueError):
@@ -35,10 +32,7 @@ def is_srgb(profile: bytes) -> bool:
 
 def _tags(profile: bytes) -> dict[bytes, bytes]:
     (count,) = struct.unpack_from(">I", profile, 128)
-    entries = (
-        struct.unpack_from(">4sII", profile, 132 + 12 * at)
-        for at in range(min(count, 100))
-    )
+    entries = (struct.unpack_from(">4sII", profile, 132 + 12 * at) for at in range(min(count, 100)))
     return {name: profile[start : start + size] for name, start, size in entries}
 
 
@@ -58,9 +52,7 @@ def _is_srgb_curve(tag: bytes) -> bool:
 
 
 def _srgb(sample: float) -> float:
-    return (
-        sample / 12.92 if sample <= 0.04045 else math.pow((sample + 0.055) / 1.055, 2.4)
-    )
+    return sample / 12.92 if sample <= 0.04045 else math.pow((sample + 0.055) / 1.055, 2.4)
 
 
 def _curve(tag: bytes) -> Optional[Callable[[float], float]]:

@@ -51,9 +51,7 @@ def answer_on(
 ) -> tuple[int, list[bytes]]:
     """The same, on a desk that is there."""
     if kind in (CHECK, CHECK_ANY):
-        status = desk.check(
-            picture, rest, background, givens if kind == CHECK else None
-        )
+        status = desk.check(picture, rest, background, givens if kind == CHECK else None)
     elif kind == PROVE:
         complete, form = map(int, rest.split())
         status = desk.prove(picture, background, givens, bool(complete), form)
@@ -61,9 +59,7 @@ def answer_on(
         words, _, certificate = rest.partition(b"\n")
         non, is_by, *allowance = words.split()
         by = certificate if is_by == b"1" else None
-        status = desk.assess(
-            picture, non == b"1", background, givens, by, b"".join(allowance)
-        )
+        status = desk.assess(picture, non == b"1", background, givens, by, b"".join(allowance))
     else:
         return _answer_of_bench(desk, kind == SESSION_OF_NON, picture, background, rest)
     return status, [desk.text()]
@@ -88,9 +84,7 @@ def _answer_of_bench(
 
 def framed(number: int, *parts: bytes) -> bytes:
     """A number with its parts, as they go over a stream. Parts that are left out are empty."""
-    return FRAME.pack(number, *map(len, parts), *[0] * (5 - len(parts))) + b"".join(
-        parts
-    )
+    return FRAME.pack(number, *map(len, parts), *[0] * (5 - len(parts))) + b"".join(parts)
 
 
 def receive(stream: BinaryIO) -> tuple[int, list[bytes]]:

@@ -11,13 +11,9 @@ if __name__ != "__main__":
 else:
     # Files of the current folder are not to be taken for libraries, unless the package itself lies
     # there.
-    here, package = os.getcwd(), os.path.dirname(
-        os.path.dirname(os.path.abspath(__file__))
-    )
+    here, package = os.getcwd(), os.path.dirname(os.path.dirname(os.path.abspath(__file__)))
     sys.path[:] = [
-        path
-        for path in sys.path
-        if os.path.abspath(path or ".") != here or here == package
+        path for path in sys.path if os.path.abspath(path or ".") != here or here == package
     ]
     from nonobench.collection import main
 

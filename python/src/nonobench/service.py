@@ -60,12 +60,8 @@ def create_app(**limits: Any) -> Flask:
     app.config.from_mapping(LIMITS)
     app.config.from_prefixed_env("NONOBENCH")
     app.config.from_mapping(limits)
-    app.config["MAX_FORM_MEMORY_SIZE"] = app.config[
-        "MAX_CONTENT_LENGTH"
-    ]  # from Flask 3.1 on
-    app.extensions[POOL] = ThreadPoolExecutor(
-        app.config["PROCESSES"]
-    )  # no thread begins here
+    app.config["MAX_FORM_MEMORY_SIZE"] = app.config["MAX_CONTENT_LENGTH"]  # from Flask 3.1 on
+    app.extensions[POOL] = ThreadPoolExecutor(app.config["PROCESSES"])  # no thread begins here
     app.register_error_handler(HTTPException, refusal)
     app.add_url_rule("/assess", view_func=assess, methods=["POST"])
     app.add_url_rule("/check", view_func=check, methods=["POST"])
@@ -88,9 +84,7 @@ def prove() -> Response:
     """The same, with a certificate that is made."""
     answer = answer_to(options(is_certifying=True))
     made = answer.files.get(".cert")
-    return told(
-        answer, {} if made is None else {"certificate_text": made.decode("ascii")}
-    )
+    return told(answer, {} if made is None else {"certificate_text": made.decode("ascii")})
 
 
 def health() -> Response:
@@ -128,9 +122,7 @@ def question() -> Question:
     unknown = min(parts.keys() - FIELDS, default=None)
     if unknown is not None:
         raise BadRequest(f"there is no field {unknown!r}, only {', '.join(FIELDS)}")
-    puzzle, certificate, givens, background = (
-        parts.get(name) or None for name in FIELDS
-    )
+    puzzle, certificate, givens, background = (parts.get(name) or None for name in FIELDS)
     if puzzle is None:
         raise BadRequest("the form has no puzzle")
     file = request.files.get("puzzle")
@@ -160,15 +152,10 @@ def told(answer: Answer, more: Optional[dict[str, str]] = None) -> Response:
 
 def png_of(rows: Sequence[str], palette: Sequence[str]) -> bytes:
     """A picture of letters as PNG, with a pixel for each cell."""
-    size = struct.pack(
-        ">IIBBBBB", len(rows[0]), len(rows), 8, 3, 0, 0, 0
-    )  # 8 bits, by a palette
+    size = struct.pack(">IIBBBBB", len(rows[0]), len(rows), 8, 3, 0, 0, 0)  # 8 bits, by a palette
     cells = b"".join(bytes([0, *map(LETTERS.index, row)]) for row in rows)
     return PNG + b"".join(
-        struct.pack(">I", len(data))
-        + kind
-        + data
-        + struct.pack(">I", zlib.crc32(kind + data))
+        struct.pack(">I", len(data)) + kind + data + struct.pack(">I", zlib.crc32(kind + data))
         for kind, data in (
             (b"IHDR", size),
             (b"PLTE", bytes.fromhex("".join(palette))),

@@ -119,23 +119,17 @@ class Worker(Questions):
         not come; those behind it are not asked then."""
         called = time.monotonic()
         with self._lock:
-            if (
-                time.monotonic() - called >= self._seconds
-            ):  # another thread's calls took them
+            if time.monotonic() - called >= self._seconds:  # another thread's calls took them
                 raise _late(self._seconds)
             # The process is this call's alone until its answers have been read whole. Whatever is
             # raised before, it never goes back.
             process, self._process, before = self._process, None, self._asked
             try:
                 if not process or not process.is_waiting():
-                    process = uninterrupted(
-                        lambda: _Process(self._memory, *self._program())
-                    )
+                    process = uninterrupted(lambda: _Process(self._memory, *self._program()))
                 self._asked = process
                 first, self._number = self._number + 1, self._number + len(questions)
-                asked = process.ask(
-                    first, questions, called, self._seconds, self._processor
-                )
+                asked = process.ask(first, questions, called, self._seconds, self._processor)
                 for answer in asked:
                     found.append(answer)
             except BaseException as error:
@@ -163,9 +157,7 @@ class _Process(Child):
 
     def __init__(self, memory: int, module: str, has_libraries: bool) -> None:
         paths = folders() if has_libraries else ()
-        super().__init__(
-            module, memory, ("-S", "-B"), paths, cwd="/", start_new_session=True
-        )
+        super().__init__(module, memory, ("-S", "-B"), paths, cwd="/", start_new_session=True)
 
     def why(self) -> Exception:
         """What is told of a process that ended in the middle of a question: by status 1 Python
@@ -176,9 +168,7 @@ class _Process(Child):
             return RuntimeError("the worker was closed while it was asked")
         has_begun, status = self.has_begun(), self.status()
         if status == 1:
-            return RuntimeError(
-                "the worker's program failed; it says why on standard error"
-            )
+            return RuntimeError("the worker's program failed; it says why on standard error")
         if (
             status == -signal.SIGXCPU
             or has_begun
@@ -223,8 +213,6 @@ class _Process(Child):
                     waited([self], min(left, _LONGEST))
             answered, (status, *texts) = come.popleft()
             if answered != number:
-                raise RuntimeError(
-                    f"the worker answered question {answered} instead of {number}"
-                )
+                raise RuntimeError(f"the worker answered question {answered} instead of {number}")
             yield int(status), [text for text in texts if text]
             begun = time.monotonic()

@@ -95,9 +95,7 @@ def _refuse(parser: argparse.ArgumentParser, arguments: Arguments) -> None:
         if not os.path.lexists(path):
             parser.error(f"no such file or folder: {path!r}")
         _refuse_paths_elsewhere(parser, arguments, path)
-    if arguments.is_resumed and not (
-        arguments.sqlite or arguments.jsonl not in (None, "-")
-    ):
+    if arguments.is_resumed and not (arguments.sqlite or arguments.jsonl not in (None, "-")):
         parser.error("--resume goes with --jsonl FILE or --sqlite FILE")
     if [arguments.jsonl, arguments.csv].count("-") > 1 or "-" in (
         arguments.html,
@@ -119,9 +117,7 @@ def _refuse_paths_elsewhere(
 ) -> None:
     has_folder = arguments.beside or arguments.certify or arguments.ppm
     if has_folder and refused_elsewhere(path):
-        parser.error(
-            f"{path!r} has no place below the folder of --beside, --certify or --ppm"
-        )
+        parser.error(f"{path!r} has no place below the folder of --beside, --certify or --ppm")
 
 
 def _refuse_outputs(parser: argparse.ArgumentParser, arguments: Arguments) -> None:
@@ -137,9 +133,7 @@ def _refuse_outputs(parser: argparse.ArgumentParser, arguments: Arguments) -> No
             parser.error(f"{name!r} is no regular file")
         if seen.intersection((path, f"{path}.new")) and name not in folders:
             parser.error(f"{name!r} is an input, or another output")
-        if arguments.folder is not None and _is_within(
-            path, os.path.realpath(arguments.folder)
-        ):
+        if arguments.folder is not None and _is_within(path, os.path.realpath(arguments.folder)):
             parser.error(f"{name!r} lies in {arguments.folder!r}, which is searched")
         seen.update((path, f"{path}.new"))
 
@@ -160,16 +154,10 @@ def _parser() -> argparse.ArgumentParser:
         formatter_class=argparse.RawDescriptionHelpFormatter,
         allow_abbrev=False,
     )
-    parser.add_argument(
-        "paths", metavar="PATH", nargs="*", help="a folder to search, or files"
-    )
-    parser.add_argument(
-        "--version", action="version", version=f"nonobench-audit {version()}"
-    )
+    parser.add_argument("paths", metavar="PATH", nargs="*", help="a folder to search, or files")
+    parser.add_argument("--version", action="version", version=f"nonobench-audit {version()}")
     _add_inputs(parser.add_argument_group("what is read"))
-    _add_outputs(
-        parser.add_argument_group("output (without a file, a table on standard output)")
-    )
+    _add_outputs(parser.add_argument_group("output (without a file, a table on standard output)"))
     _add_bounds(parser.add_argument_group("bounds"))
     return parser
 
@@ -345,9 +333,7 @@ def unpack_arguments(words: list[str]) -> tuple[str, str]:
         description="Writes a file for each puzzle of an XML set, with its title and givens.",
     )
     parser.add_argument("set", metavar="SET.xml")
-    parser.add_argument(
-        "folder", metavar="DIR", help="is made; what lies there must be no puzzle"
-    )
+    parser.add_argument("folder", metavar="DIR", help="is made; what lies there must be no puzzle")
     found = parser.parse_args(words)
     if os.path.isdir(found.folder) and os.listdir(found.folder):
         parser.error(f"{found.folder!r} is not empty")

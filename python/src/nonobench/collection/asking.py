@@ -44,11 +44,7 @@ class Judge(Worker):
         texts = self._texts(JUDGE, questions, options)
         found = [_answer_of(*both, options) for both in zip(questions, texts)]
         is_making = options.is_certifying or options.is_publishing
-        made = [
-            at
-            for at, one in enumerate(found)
-            if is_making and one.row["verdict"] == "unique"
-        ]
+        made = [at for at, one in enumerate(found) if is_making and one.row["verdict"] == "unique"]
         texts = self._texts(CERTIFY, [questions[at] for at in made], options)
         for at, text in zip(made, texts):
             found[at] = _with_certificate(found[at], text, options)
@@ -92,9 +88,7 @@ def _answer_of(question: Question, text: tuple[bytes, str], options: Options) ->
     return Answer(row, {}, why in _BOUNDS and "missing" not in row)
 
 
-def _with_certificate(
-    answer: Answer, text: tuple[bytes, str], options: Options
-) -> Answer:
+def _with_certificate(answer: Answer, text: tuple[bytes, str], options: Options) -> Answer:
     """Adds the certificate that was made, or that none was."""
     row, (said, why) = answer.row, text
     found = json.loads(said) if said else {}
@@ -142,17 +136,13 @@ def audit(
     """
     if executor is not None:
         turns = Turns()
-        for come in arrivals(
-            (Entry(Question(*puzzle)) for puzzle in puzzles), options, executor
-        ):
+        for come in arrivals((Entry(Question(*puzzle)) for puzzle in puzzles), options, executor):
             for number, _, answer in come:
                 yield from turns.due(number, answer.row)
         return
     judges: list[Judge] = []
     count = len(os.sched_getaffinity(0))
-    threads = ThreadPoolExecutor(
-        count, initializer=setattr, initargs=(_kept, "judges", judges)
-    )
+    threads = ThreadPoolExecutor(count, initializer=setattr, initargs=(_kept, "judges", judges))
     try:
         yield from audit(puzzles, options, threads)
     finally:
@@ -229,9 +219,7 @@ class Pack(NamedTuple):
     def answers(self, first: int) -> list[Arrival]:
         """Their answers."""
         made = iter(self.future.result())
-        found = [
-            next(made) if one.question else Answer(one.row) for one in self.entries
-        ]
+        found = [next(made) if one.question else Answer(one.row) for one in self.entries]
         return list(zip(itertools.count(first), self.entries, found))
 
 

@@ -31,9 +31,7 @@ class Found(NamedTuple):
     path: str
     belonging: dict[str, str] = {}  # by endings
     ignored: dict[str, str] = {}  # what lies beside it and is not believed
-    why: str = (
-        ""  # it is no puzzle, or what is meant to belong to it is called otherwise
-    )
+    why: str = ""  # it is no puzzle, or what is meant to belong to it is called otherwise
 
 
 def is_puzzle(name: str) -> bool:
@@ -59,16 +57,12 @@ def meant_in(names: Iterable[str]) -> Meant:
 def _meant_beside(folder: str) -> Meant:
     try:
         with os.scandir(folder or ".") as entries:
-            return meant_in(
-                [one.name for one in entries if not one.is_dir(follow_symlinks=False)]
-            )
+            return meant_in([one.name for one in entries if not one.is_dir(follow_symlinks=False)])
     except OSError:
         return {}
 
 
-def walk(
-    folder: str, skipped: Skipped, failures: list[OSError]
-) -> Iterator[tuple[str, list[str]]]:
+def walk(folder: str, skipped: Skipped, failures: list[OSError]) -> Iterator[tuple[str, list[str]]]:
     """The folders below one, and the files in each, in order. Links and hidden names are counted:
     a link that may be meant to belong to a puzzle stays, and cannot be read."""
     waiting = [""]
@@ -80,9 +74,7 @@ def walk(
                 for entry in entries:
                     if entry.name.startswith("."):
                         skipped["hidden"] += 1
-                    elif entry.is_symlink() and not _ANY_ENDING.search(
-                        entry.name.lower()
-                    ):
+                    elif entry.is_symlink() and not _ANY_ENDING.search(entry.name.lower()):
                         skipped["links"] += 1
                     elif entry.is_dir(follow_symlinks=False):
                         folders.append(os.path.join(below, entry.name))
@@ -101,9 +93,7 @@ class Search:
         self.skipped: Skipped = Counter()
         self.failures: list[OSError] = []  # folders that cannot be listed
         self._beside = beside
-        self._is_believed = (
-            beside is None and not is_untrusted
-        )  # what lies beside a puzzle
+        self._is_believed = beside is None and not is_untrusted  # what lies beside a puzzle
 
     def folder(self, folder: str) -> Iterator[Found]:
         """The puzzles below a folder by their paths there, and each file that is called as what
@@ -119,9 +109,7 @@ class Search:
             believed = lying if self._is_believed else apart
             meant = meant_in(names)
             for name in puzzles:
-                yield self._found(
-                    name, os.path.join(folder, name), believed, lying, meant
-                )
+                yield self._found(name, os.path.join(folder, name), believed, lying, meant)
             if self._is_believed:
                 yield from _of_none(lying, puzzles)
                 lying = {}
@@ -140,13 +128,8 @@ class Search:
             lying = {one: path for one, path in lying.items() if os.path.lexists(path)}
             apart = {}
             if self._beside is not None:
-                paths = {
-                    one: os.path.join(self._beside, one)
-                    for one in map(name.__add__, ENDINGS)
-                }
-                apart = {
-                    one: path for one, path in paths.items() if os.path.lexists(path)
-                }
+                paths = {one: os.path.join(self._beside, one) for one in map(name.__add__, ENDINGS)}
+                apart = {one: path for one, path in paths.items() if os.path.lexists(path)}
             believed = lying if self._is_believed else apart
             meant = _meant_beside(os.path.dirname(name))
             yield self._found(name, name, believed, lying, meant)
@@ -161,9 +144,7 @@ class Search:
     ) -> Found:
         """A puzzle, with what belongs to it: this is taken out of what is believed."""
         belonging = {
-            ending: believed.pop(name + ending)
-            for ending in ENDINGS
-            if name + ending in believed
+            ending: believed.pop(name + ending) for ending in ENDINGS if name + ending in believed
         }
         beside = {one: lying[name + one] for one in ENDINGS if name + one in lying}
         ignored = {} if self._is_believed else beside
@@ -193,9 +174,7 @@ def _of_none(left: dict[str, str], puzzles: list[str]) -> Iterator[Found]:
     """What belongs to no puzzle, and how to call it."""
     for name, path in sorted(left.items()):
         stem, ending = os.path.splitext(name)
-        meant = next(
-            (one for one in puzzles if os.path.splitext(one)[0] == stem), "PUZZLE.png"
-        )
+        meant = next((one for one in puzzles if os.path.splitext(one)[0] == stem), "PUZZLE.png")
         called = os.path.basename(meant) + ending
         yield Found(
             name,
@@ -236,9 +215,5 @@ def bytes_of(path: str, whose: str = "") -> bytes:
         raise
     except (OSError, ValueError) as error:  # a name may have a NUL
         is_link = isinstance(error, OSError) and os.path.islink(path)
-        why = (
-            "this is a link"
-            if is_link
-            else getattr(error, "strerror", None) or str(error)
-        )
+        why = "this is a link" if is_link else getattr(error, "strerror", None) or str(error)
         raise UnreadableError(f"{whose}{why}") from error

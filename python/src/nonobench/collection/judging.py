@@ -52,9 +52,7 @@ _library = _OnOneDesk()
 def parts_of(question: Question, options: Options) -> list[bytes]:
     """A question as it goes to the process."""
     is_there = [part is not None for part in question[2:4]]
-    background = (
-        None if question.background is None else question.background.decode("latin-1")
-    )
+    background = None if question.background is None else question.background.decode("latin-1")
     claimed = None if question.claimed is None else question.claimed.decode("latin-1")
     head = [question.name, background, question.ignored, claimed, is_there, options]
     return [
@@ -139,17 +137,13 @@ def _judged(question: Question, options: Options) -> Row:
     elif options.is_certified:
         raise UnreadableError("there is no certificate")
     if said is None and options.is_certified:
-        raise UnreadableError(
-            f"its certificate is refused: {row['certificate']['why']}"
-        )
+        raise UnreadableError(f"its certificate is refused: {row['certificate']['why']}")
     if said is None:
         said = _assessed(picture, None, options.max_guesses)
     reading.need_claims(picture)
     is_accepted = row.get("certificate", {"accepted": True})["accepted"]
     flaws = [str(flaw) for flaw in said.flaws]
-    is_fit = said.verdict.ruling is Ruling.UNIQUE and not refused_flaws(
-        flaws, options.allowed
-    )
+    is_fit = said.verdict.ruling is Ruling.UNIQUE and not refused_flaws(flaws, options.allowed)
     row.update(
         verdict=said.verdict.ruling.value,
         fit=is_fit and is_accepted,
@@ -179,9 +173,7 @@ def _figures(said: Assessment, flaws: list[str]) -> Row:
 
 def _shown(picture: Picture, said: Assessment) -> Row:
     """The picture of a row, its givens, and a second solution."""
-    palette, letters = shown_in(
-        picture.text, picture.background, said.rows * said.columns
-    )
+    palette, letters = shown_in(picture.text, picture.background, said.rows * said.columns)
     width = said.columns
     rows = "/".join([letters[at : at + width] for at in range(0, len(letters), width)])
     row: Row = {
@@ -199,9 +191,7 @@ def _shown(picture: Picture, said: Assessment) -> Row:
     return row
 
 
-def _by_certificate(
-    picture: Picture, certificate: bytes
-) -> tuple[Optional[Assessment], Row]:
+def _by_certificate(picture: Picture, certificate: bytes) -> tuple[Optional[Assessment], Row]:
     """What a certificate proves, if it is accepted, and what is said of it."""
     try:
         said = _assessed(picture, certificate, 0)
@@ -243,9 +233,7 @@ def _painted(picture: Picture, options: Options) -> Picture:
 def files_of(question: Question, options: Options) -> dict[str, bytes]:
     """A certificate of a puzzle with one solution, and the picture that it is of."""
     picture = _painted(reading.picture_of(question, options), options)
-    proved = _library.prove(
-        picture.text, picture.background, picture.givens, complete=True
-    )
+    proved = _library.prove(picture.text, picture.background, picture.givens, complete=True)
     certificate = proved.certificate
     if certificate is None:
         return {}

@@ -220,32 +220,24 @@ class Database(Sink):
     """A table of SQLite, in which each file has one row: that of the last run."""
 
     def __init__(self, name: str) -> None:
-        self._lock = lock(
-            name, os.O_RDWR | os.O_CREAT
-        )  # closed later than the database
+        self._lock = lock(name, os.O_RDWR | os.O_CREAT)  # closed later than the database
         self._database = sqlite3.connect(name)
         fields = ", ".join(_FIELDS)
         self._database.execute(
             f"CREATE TABLE IF NOT EXISTS puzzles (file TEXT PRIMARY KEY, {fields}, row TEXT)"
         )
-        self._database.execute(
-            "CREATE INDEX IF NOT EXISTS puzzles_by_key ON puzzles (key)"
-        )
+        self._database.execute("CREATE INDEX IF NOT EXISTS puzzles_by_key ON puzzles (key)")
 
     def kept(self, key: str) -> Optional[Row]:
         """The row with a key."""
-        found = self._database.execute(
-            "SELECT row FROM puzzles WHERE key = ?", (key,)
-        ).fetchone()
+        found = self._database.execute("SELECT row FROM puzzles WHERE key = ?", (key,)).fetchone()
         return None if found is None else _row_of(found[0])
 
     def keep(self, row: Row) -> None:
         name = row["file"].encode("utf-8", "backslashreplace").decode("utf-8")
         values = [name, *(row.get(field) for field in _FIELDS), text_of(row)]
         marks = ", ".join("?" * len(values))
-        self._database.execute(
-            f"INSERT OR REPLACE INTO puzzles VALUES ({marks})", values
-        )
+        self._database.execute(f"INSERT OR REPLACE INTO puzzles VALUES ({marks})", values)
 
     def put(self, row: Row) -> None:
         if "same_as" in row:  # which was not known before

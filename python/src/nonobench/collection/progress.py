@@ -29,16 +29,12 @@ class Progress:
                 from tqdm import tqdm
             except ImportError:
                 return
-            self._bar = tqdm(
-                total=total, unit=" files", dynamic_ncols=True, smoothing=0.1
-            )
+            self._bar = tqdm(total=total, unit=" files", dynamic_ncols=True, smoothing=0.1)
 
     def step(self) -> None:
         """Takes notice of a row that is counted."""
         if self._bar is not None:
-            self._bar.set_postfix_str(
-                counted(self._tally.fitness, FITNESS), refresh=False
-            )
+            self._bar.set_postfix_str(counted(self._tally.fitness, FITNESS), refresh=False)
             self._bar.update()
         elif not self._is_quiet and time.monotonic() - self._said >= EVERY:
             self._said = time.monotonic()

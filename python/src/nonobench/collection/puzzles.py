@@ -25,9 +25,7 @@ class MissingLibraryError(ImportError):
     """A library is not installed that a file or an option needs."""
 
     def __init__(self, library: str, use: str) -> None:
-        super().__init__(
-            f"{library}, which {use}, is not installed (pip install {library})"
-        )
+        super().__init__(f"{library}, which {use}, is not installed (pip install {library})")
         self.args = (library, use)
         self.library = library
 
@@ -42,38 +40,26 @@ class Question(NamedTuple):
     givens: Optional[bytes] = None  # lines `given R C`
     background: Optional[bytes] = None  # `white` or R,G,B
     ignored: tuple[str, ...] = ()  # what lies beside it and is not believed
-    claimed: Optional[
-        bytes
-    ] = None  # a background that lies beside it and is not believed
+    claimed: Optional[bytes] = None  # a background that lies beside it and is not believed
 
 
 class Options(NamedTuple):
     """What changes an answer."""
 
     background: str = "auto"  # of pictures that name none: auto, white or R,G,B
-    seconds: int = (
-        10  # of processor time for each puzzle; ten times as many by the clock
-    )
+    seconds: int = 10  # of processor time for each puzzle; ten times as many by the clock
     memory: int = 1024  # MiB of a process
     max_guesses: Optional[int] = None  # of each search: 0 to 99,999
     allowed: tuple[str, ...] = ()  # kinds of flaws that count for nothing
-    is_untrusted: bool = (
-        False  # the givens and the background that XML names count for nothing
-    )
-    is_certified: bool = (
-        False  # a certificate must be there and accepted; nothing is searched
-    )
+    is_untrusted: bool = False  # the givens and the background that XML names count for nothing
+    is_certified: bool = False  # a certificate must be there and accepted; nothing is searched
     is_certifying: bool = False  # a certificate is made
     is_publishing: bool = False  # the picture is written as P3, with its certificate
 
     def limit(self) -> Row:
         """The bound that leaves a puzzle undecided."""
         bounds: Row = {"seconds": self.seconds, "memory": self.memory}
-        return (
-            bounds
-            if self.max_guesses is None
-            else {**bounds, "guesses": self.max_guesses}
-        )
+        return bounds if self.max_guesses is None else {**bounds, "guesses": self.max_guesses}
 
 
 class Answer(NamedTuple):
@@ -81,9 +67,7 @@ class Answer(NamedTuple):
 
     row: Row
     files: dict[str, bytes] = {}
-    is_lasting: bool = (
-        True  # it comes from the bytes and the bounds, and would come again
-    )
+    is_lasting: bool = True  # it comes from the bytes and the bounds, and would come again
 
 
 def need(is_right: object, why: str) -> None:

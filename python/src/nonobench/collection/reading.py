@@ -40,9 +40,7 @@ class Picture(NamedTuple):
     is_non: bool = False
     ink: Colour = BLACK  # of a .non text
     ignored: tuple[str, ...] = ()  # what its XML names and is not believed
-    claims: tuple[
-        Optional[Colour], ...
-    ] = ()  # backgrounds that are named and not believed
+    claims: tuple[Optional[Colour], ...] = ()  # backgrounds that are named and not believed
 
 
 def background_named(word: str) -> Optional[Colour]:
@@ -86,9 +84,7 @@ def need_claims(picture: Picture) -> None:
         )
 
 
-def puzzles_of(
-    data: bytes, background: Optional[Colour], asked: Questions
-) -> list[Puzzle]:
+def puzzles_of(data: bytes, background: Optional[Colour], asked: Questions) -> list[Puzzle]:
     """The puzzles of a file, whatever it is, with the background and the givens that it names."""
     named = None if background is None else colour_word(background)
     question = Question("", data, background=named)
@@ -198,18 +194,12 @@ def _picture_of_xml(
             not is_named and not question.givens,
             "it has clues only: no background or givens",
         )
-        return Picture(
-            drawn.text, drawn.background, "XML", b"", drawn.title, True, drawn.ink
-        )
+        return Picture(drawn.text, drawn.background, "XML", b"", drawn.title, True, drawn.ink)
     if not is_untrusted and not is_named:
         return Picture(drawn.text, drawn.background, "XML", drawn.givens, drawn.title)
     picture = Picture(drawn.text, title=drawn.title, givens=drawn.givens)
     if is_untrusted:
         ignored = ("givens in the XML",) * bool(drawn.givens)
-        picture = picture._replace(
-            givens=b"", ignored=ignored, claims=(drawn.background,)
-        )
+        picture = picture._replace(givens=b"", ignored=ignored, claims=(drawn.background,))
     background = background_named(word)
-    return picture._replace(
-        background=background, background_from="named" if is_named else _WHITE
-    )
+    return picture._replace(background=background, background_from="named" if is_named else _WHITE)

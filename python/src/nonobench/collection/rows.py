@@ -42,9 +42,7 @@ COLUMNS = (
 LETTERS = ".abcdefghijklmno"
 
 
-def shown_in(
-    text: bytes, background: Optional[Colour], cells: int
-) -> tuple[list[str], str]:
+def shown_in(text: bytes, background: Optional[Colour], cells: int) -> tuple[list[str], str]:
     """The colours of a P3 text as shown, its background first, and the letter of each cell."""
     _, _, most, raster = plain_words(text[2:], 3)
     spots = raster.rstrip().split(b"\n", cells)  # mostly each cell has a line
@@ -58,9 +56,7 @@ def shown_in(
     by_colour = dict(zip(colours, LETTERS))
     letters = {spot: by_colour[triple] for spot, triple in triples.items()}
     scale = _number(most)
-    shown = (
-        colours if scale == 255 else [colour_shown(triple, scale) for triple in colours]
-    )
+    shown = colours if scale == 255 else [colour_shown(triple, scale) for triple in colours]
     palette = ["%02x%02x%02x" % triple for triple in shown]
     return palette, "".join([letters[spot] for spot in spots])
 
@@ -83,9 +79,7 @@ def _triple(words: Sequence[bytes]) -> Colour:
 
 
 def _number(word: bytes) -> int:
-    return int(
-        word.lstrip(b"0") or b"0"
-    )  # Python reads no more than some thousands of digits
+    return int(word.lstrip(b"0") or b"0")  # Python reads no more than some thousands of digits
 
 
 def fitness_of(row: Row) -> str:
@@ -102,9 +96,7 @@ def certificate_words(row: Row) -> str:
         return ""
     if not found["accepted"]:
         return f"refused: {found['why']}"
-    return (
-        f"accepted, givens {len(found['givens'])}" if "givens" in found else "accepted"
-    )
+    return f"accepted, givens {len(found['givens'])}" if "givens" in found else "accepted"
 
 
 # What is counted of a collection, by the kinds of flaws. Of another kind, its word is.
@@ -121,9 +113,7 @@ def flaws_of(row: Row, allowed: Iterable[str]) -> list[str]:
     """Why a puzzle cannot be published as it is, apart from its verdict, for somebody who allows
     flaws of some kinds."""
     is_accepted = row.get("certificate", {"accepted": True})["accepted"]
-    kinds = [
-        flaw.split(" ")[0] for flaw in refused_flaws(row.get("flaws", ()), allowed)
-    ]
+    kinds = [flaw.split(" ")[0] for flaw in refused_flaws(row.get("flaws", ()), allowed)]
     flaws = [FLAWS.get(kind, kind) for kind in dict.fromkeys(kinds)]
     return flaws if is_accepted else [REFUSED, *flaws]
 
@@ -213,11 +203,7 @@ def printable(text: str) -> str:
 
 def _escaped(sign: str) -> str:
     is_latin = "\x7f" < sign < "\u0100"
-    return (
-        f"\\u{ord(sign):04x}"
-        if is_latin
-        else sign.encode("unicode_escape").decode("ascii")
-    )
+    return f"\\u{ord(sign):04x}" if is_latin else sign.encode("unicode_escape").decode("ascii")
 
 
 def csv_cells(row: Row) -> list[Any]:
@@ -232,9 +218,7 @@ def csv_cells(row: Row) -> list[Any]:
         "fit": _yes(row["fit"]),
         "flaws": "; ".join(flaw_words(row)),
         "certificate": certificate_words(row),
-        "certificate_givens": " ".join(
-            f"{r},{c}" for r, c in certificate.get("givens", ())
-        ),
+        "certificate_givens": " ".join(f"{r},{c}" for r, c in certificate.get("givens", ())),
         "givens": " ".join(f"{r},{c}" for r, c in row.get("givens", ())),
         "background": f"#{row['background']}" if "background" in row else "",
         "palette": " ".join(f"#{colour}" for colour in row.get("palette", ())),
@@ -242,9 +226,7 @@ def csv_cells(row: Row) -> list[Any]:
     }
     found = [cells.get(name, "") for name in COLUMNS]
     return [
-        ";".join(map(_no_formula, printable(cell).split(";")))
-        if isinstance(cell, str)
-        else cell
+        ";".join(map(_no_formula, printable(cell).split(";"))) if isinstance(cell, str) else cell
         for cell in found
     ]
 

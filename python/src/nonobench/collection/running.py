@@ -66,11 +66,7 @@ def main(words: Optional[list[str]] = None) -> int:
         if signal.getsignal(number) != signal.SIG_IGN:
             signal.signal(number, _stop)
     try:
-        return (
-            unpack(*unpack_arguments(words[1:]))
-            if words[:1] == ["unpack"]
-            else _run(words)
-        )
+        return unpack(*unpack_arguments(words[1:])) if words[:1] == ["unpack"] else _run(words)
     except Stopped as stop:
         _leave(stop.status)
 
@@ -158,18 +154,14 @@ class Run:
         elif arguments.jsonl is not None:
             self._sinks.append(Lines(arguments.jsonl, arguments.is_resumed))
         if arguments.is_resumed:
-            self._kept = [
-                one for one in self._sinks if isinstance(one, (Lines, Database))
-            ]
+            self._kept = [one for one in self._sinks if isinstance(one, (Lines, Database))]
         if not self._sinks and not arguments.is_quiet:
             self._sinks.append(Table())
 
     def _folders(self) -> list[str]:
         """The folders of what is made of puzzles, each once."""
         named = (self._arguments.certify, self._arguments.ppm)
-        return list(
-            {os.path.realpath(one): one for one in named if one is not None}.values()
-        )
+        return list({os.path.realpath(one): one for one in named if one is not None}.values())
 
     def run(self) -> int:
         """Judges all, and answers the status. What is there is replaced only by a run that does
@@ -180,10 +172,7 @@ class Run:
                 self._open()
                 self._progress.begin(self._count())
                 for come in arrivals(self._entries(), self._options, executor):
-                    rows = [
-                        (number, self._keep(entry, answer))
-                        for number, entry, answer in come
-                    ]
+                    rows = [(number, self._keep(entry, answer)) for number, entry, answer in come]
                     for sink in self._sinks:
                         sink.flush()
                     for number, row in rows:
@@ -263,10 +252,7 @@ class Run:
         is not to be tried with other bounds."""
         for kept in self._kept:
             row = kept.kept(key)
-            if (
-                row is None
-                or row.get("limit", self._options.limit()) != self._options.limit()
-            ):
+            if row is None or row.get("limit", self._options.limit()) != self._options.limit():
                 continue
             row.pop("same_as", None)
             files = row.get("files", {})
@@ -326,10 +312,7 @@ class Run:
     def _put(self, row: Row) -> None:
         """Writes a row in its turn."""
         shape = row.get("shape")
-        if (
-            shape is not None
-            and self._shapes.setdefault(shape, row["file"]) != row["file"]
-        ):
+        if shape is not None and self._shapes.setdefault(shape, row["file"]) != row["file"]:
             row["same_as"] = self._shapes[shape]
             self._tally.same += 1
         for sink in self._sinks:

@@ -45,9 +45,7 @@ def _counts(lines: list[bytes]) -> list[int]:
     return [line.count(b".") for line in lines]
 
 
-def _turned(
-    rows: list[int], columns: list[int]
-) -> Sequence[tuple[list[int], list[int]]]:
+def _turned(rows: list[int], columns: list[int]) -> Sequence[tuple[list[int], list[int]]]:
     """The counts of a picture and of the seven others, in the order of `shape_of`."""
     back, up = columns[::-1], rows[::-1]
     return (
@@ -69,9 +67,7 @@ def _clues(lines: list[bytes], colours: list[int]) -> list[bytes]:
         text = text.replace(b"..", b".")
     for colour in colours:
         apart, marked = b"%c.%c" % (colour, colour), b"%c,%c" % (colour, colour)
-        text = text.replace(apart, marked).replace(
-            apart, marked
-        )  # two in `a.a.a` overlap
+        text = text.replace(apart, marked).replace(apart, marked)  # two in `a.a.a` overlap
     return text.replace(b".", b"").split(b"/")
 
 

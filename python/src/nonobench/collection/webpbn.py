@@ -97,9 +97,7 @@ def elements_of(data: bytes) -> list[Element]:
     except DefusedXmlException as error:
         raise UnreadableError("the XML has declarations of its own") from error
     except (ElementTree.ParseError, ValueError) as error:
-        raise UnreadableError(
-            f"the XML cannot be read: {one_line(str(error))}"
-        ) from error
+        raise UnreadableError(f"the XML cannot be read: {one_line(str(error))}") from error
     need(
         not outer.tag.lower().endswith("svg"),
         "this is SVG: convert it to PNG: nonobench.html opens it",
@@ -126,20 +124,14 @@ def puzzle_of(element: Element) -> Drawn:
     solutions = element.findall("solution")
     goals = [one for one in solutions if one.get("type", "goal") == "goal"]
     goals = goals or [one for one in solutions if one.get("type") == "solution"]
-    givens = [
-        one
-        for one in solutions
-        if (one.get("type"), one.get("id")) == ("saved", GIVENS)
-    ]
+    givens = [one for one in solutions if (one.get("type"), one.get("id")) == ("saved", GIVENS)]
     if not goals:
         need(not givens, "the puzzle has givens and no solution")
         return _drawn_of_clues(element, clues, title)
     signs, *others = map(_image, goals)
     is_one = all(other == signs for other in others)
     need(is_one, "the puzzle has several goals, and they are different pictures")
-    ground, used = element.get("backgroundcolor", "white"), {
-        sign for row in signs for sign in row
-    }
+    ground, used = element.get("backgroundcolor", "white"), {sign for row in signs for sign in row}
     order, by_sign = _order(_inks(element), ground, used)
     cells = [[by_sign[sign].name for sign in row] for row in signs]
     _compare(cells, order[0].name, clues)
@@ -147,9 +139,7 @@ def puzzle_of(element: Element) -> Drawn:
     published = b"" if saved is None else _givens(_image(saved), signs)
     apart = _apart([ink.triple for ink in order])
     triples = {ink.name: triple for ink, triple in zip(order, apart)}
-    text = picture_of(
-        len(cells[0]), len(cells), [triples[name] for row in cells for name in row]
-    )
+    text = picture_of(len(cells[0]), len(cells), [triples[name] for row in cells for name in row])
     return Drawn(text, apart[0], published, title)
 
 
@@ -157,9 +147,7 @@ def _drawn_of_clues(element: Element, clues: dict[str, Any], title: str) -> Draw
     """A puzzle that has clues and no goal, in two colours."""
     text, inks = _non_text(clues), _inks(element)
     ground = element.get("backgroundcolor", "white")
-    used = {
-        name for lines in clues.values() for line in lines or () for _, name in line
-    }
+    used = {name for lines in clues.values() for line in lines or () for _, name in line}
     is_known = used | {ground} <= inks.keys()
     need(
         is_known,
@@ -216,13 +204,9 @@ def _triple(text: str) -> Colour:
     return red, green, blue
 
 
-def _order(
-    inks: dict[str, Ink], ground: str, used: set[str]
-) -> tuple[list[Ink], dict[str, Ink]]:
+def _order(inks: dict[str, Ink], ground: str, used: set[str]) -> tuple[list[Ink], dict[str, Ink]]:
     """The colours of a solution, its background first, and the colour of each sign."""
-    need(
-        ground in inks, "the background of the puzzle is a colour that it does not have"
-    )
+    need(ground in inks, "the background of the puzzle is a colour that it does not have")
     by_sign: dict[str, Ink] = {}
     for ink in inks.values():
         before = by_sign.get(ink.sign or "")
@@ -251,9 +235,7 @@ def _apart(triples: list[Colour]) -> list[Colour]:
     made: list[Colour] = []
     for red, green, blue in triples:
         blues = sorted(range(256), key=lambda other: abs(other - blue))
-        made.append(
-            next(one for one in ((red, green, at) for at in blues) if one not in made)
-        )
+        made.append(next(one for one in ((red, green, at) for at in blues) if one not in made))
     return made
 
 
@@ -288,9 +270,7 @@ def _sign(cell: str) -> str:
     return cell[-1]
 
 
-def _clues(
-    element: Any, axis: str, usual: str
-) -> Optional[list[list[tuple[int, str]]]]:
+def _clues(element: Any, axis: str, usual: str) -> Optional[list[list[tuple[int, str]]]]:
     """The clues of an axis as lengths with names of colours, or none where the puzzle does not tell
     them."""
     clues = _only(
@@ -318,17 +298,13 @@ def _length(count: Any) -> int:
 def _compare(cells: list[list[str]], ground: str, clues: dict[str, Any]) -> None:
     """Clues that stand in the file must be those of the goal."""
     for axis, lines in (("rows", cells), ("columns", zip(*cells))):
-        is_right = clues[axis] is None or clues[axis] == [
-            _blocks(line, ground) for line in lines
-        ]
+        is_right = clues[axis] is None or clues[axis] == [_blocks(line, ground) for line in lines]
         need(is_right, f"the clues of the {axis} are not those of the solution")
 
 
 def _blocks(line: Any, ground: str) -> list[tuple[int, str]]:
     return [
-        (sum(1 for _ in cells), name)
-        for name, cells in itertools.groupby(line)
-        if name != ground
+        (sum(1 for _ in cells), name) for name, cells in itertools.groupby(line) if name != ground
     ]
 
 

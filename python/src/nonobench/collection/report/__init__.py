@@ -38,15 +38,11 @@ class Report(Sink):
         self._new, self._title, self._tally = NewFile(name), title, tally
         self._rows = tempfile.TemporaryFile()
         self._sides: Counter[tuple[int, str]] = Counter()
-        self._filters: Counter[
-            str
-        ] = Counter()  # by what is wrong with a puzzle, or the same
+        self._filters: Counter[str] = Counter()  # by what is wrong with a puzzle, or the same
         self._numbers: dict[str, int] = {}
 
     def put(self, row: Row) -> None:
-        found = flaws_of(row, self._tally.allowed) + (
-            [SAME] if "same_as" in row else []
-        )
+        found = flaws_of(row, self._tally.allowed) + ([SAME] if "same_as" in row else [])
         self._filters.update(found)
         if "rows" in row:
             side = max(row["rows"], row["columns"])
@@ -87,9 +83,7 @@ class Report(Sink):
         """What the front of the page tells, as numbers and shares."""
         tally = self._tally
         tallest = max(tally.grades.values(), default=1)
-        sides = [
-            (most, [self._sides[most, name] for name in FITNESS]) for most in SIDES
-        ]
+        sides = [(most, [self._sides[most, name] for name in FITNESS]) for most in SIDES]
         widest = max((sum(counts) for _, counts in sides), default=1) or 1
         return {
             "total": tally.total,
@@ -97,13 +91,9 @@ class Report(Sink):
                 (name, tally.fitness[name], tally.fitness[name] / (tally.total or 1))
                 for name in FITNESS
             ],
-            "grades": [
-                (name, tally.grades[name], tally.grades[name] / tallest)
-                for name in GRADES
-            ],
+            "grades": [(name, tally.grades[name], tally.grades[name] / tallest) for name in GRADES],
             "filters": [
-                (number, name, self._filters[name])
-                for name, number in self._numbers.items()
+                (number, name, self._filters[name]) for name, number in self._numbers.items()
             ],
             "skipped": sorted(tally.skipped.items()),
             "graded": sum(tally.grades.values()),
@@ -112,10 +102,7 @@ class Report(Sink):
                     least + 1,
                     most,
                     sum(counts),
-                    [
-                        (name, count, count / widest)
-                        for name, count in zip(FITNESS, counts)
-                    ],
+                    [(name, count, count / widest) for name, count in zip(FITNESS, counts)],
                 )
                 for least, (most, counts) in zip((0, *SIDES), sides)
                 if sum(counts)
@@ -127,10 +114,7 @@ def record_of(row: Row, flaws: list[int]) -> list[Any]:
     """A row with the numbers of its flaws, as the page's script reads it. What is empty at its end
     is left out."""
     figures = row.get("figures", {})
-    givens = [
-        (place[0] - 1) * row["columns"] + place[1] - 1
-        for place in row.get("givens", ())
-    ]
+    givens = [(place[0] - 1) * row["columns"] + place[1] - 1 for place in row.get("givens", ())]
     record: list[Any] = [
         printable(row["file"]),
         row.get("title", ""),
@@ -157,9 +141,7 @@ def record_of(row: Row, flaws: list[int]) -> list[Any]:
 def runs_of(picture: str) -> str:
     """The cells of a picture, row after row: a letter, and how often it comes where that is more
     than once."""
-    return re.sub(
-        r"(.)\1+", lambda run: f"{run[1]}{len(run[0])}", picture.replace("/", "")
-    )
+    return re.sub(r"(.)\1+", lambda run: f"{run[1]}{len(run[0])}", picture.replace("/", ""))
 
 
 def _environment() -> Any:
