@@ -3,14 +3,14 @@
 
 from __future__ import annotations
 
-import contextlib
 import functools
 import hashlib
+import itertools
 import json
 import os
 import threading
 from concurrent.futures import Executor, Future, ThreadPoolExecutor
-from queue import Empty, SimpleQueue
+from queue import SimpleQueue
 from typing import Any, Iterable, Iterator, NamedTuple, Optional, Sequence, Union
 
 from .._library import version
@@ -19,9 +19,15 @@ from .judging import CERTIFY, JUDGE, parts_of
 from .puzzles import Answer, Options, Question, Row
 
 WALL = 10  # how much longer a puzzle may take by the clock than of the processor
-LEAST_AHEAD = 64  # puzzles on their way, before what has come is taken
+TOGETHER = 8  # puzzles that go together, and whose rows are written together
+LEAST_AHEAD = 8  # of these on their way, before what has come is taken
 MOST_AHEAD = 4096  # puzzles behind one that takes long
 MOST_BYTES = 32 << 20  # of questions that are on their way
+_BOUNDS = (
+    "",
+    OVER_PROCESSOR,
+    OVER_MEMORY,
+)  # why an answer lasts: it is one, or the bounds say so
 
 
 class Judge(Worker):
@@ -33,36 +39,60 @@ class Judge(Worker):
     def _program(self) -> tuple[str, bool]:
         return "collection.judging", True
 
-    def answer(self, question: Question, options: Options) -> Answer:
-        """What is said of a puzzle, and what is to be written for it."""
-        text, why = self._text(JUDGE, question, options)
-        row: Row = {"file": question.name, "verdict": "undecided", "fit": False, "notes": [why]}
-        row = json.loads(text) if text else {**row, "limit": options.limit()}
-        row["tool"], row["digest"] = _tool(), digest_of(question.data)
-        files: dict[str, bytes] = {}
-        if (options.is_certifying or options.is_publishing) and row["verdict"] == "unique":
-            text, why = self._text(CERTIFY, question, options)
-            found = json.loads(text) if text else {}
-            files = {ending: data.encode("ascii") for ending, data in found.items()}
-            _add_certificate(row, files, options)
-        is_lasting = why in ("", OVER_PROCESSOR, OVER_MEMORY) and "missing" not in row
-        return Answer(row, files, is_lasting)
+    def answers(self, questions: Sequence[Question], options: Options) -> list[Answer]:
+        """What is said of puzzles, and what is to be written for each."""
+        texts = self._texts(JUDGE, questions, options)
+        found = [_answer_of(*both, options) for both in zip(questions, texts)]
+        is_making = options.is_certifying or options.is_publishing
+        made = [at for at, one in enumerate(found) if is_making and one.row["verdict"] == "unique"]
+        texts = self._texts(CERTIFY, [questions[at] for at in made], options)
+        for at, text in zip(made, texts):
+            found[at] = _with_certificate(found[at], text, options)
+        return found
 
-    def _text(self, kind: int, question: Question, options: Options) -> tuple[bytes, str]:
-        """The text that is answered to a question, or why none is."""
-        try:
-            return self._answer(kind, *parts_of(question, options))[1][0], ""
-        except (TimeoutError, MemoryError) as error:
-            return b"", str(error)
+    def _texts(
+        self, kind: int, questions: Sequence[Question], options: Options
+    ) -> list[tuple[bytes, str]]:
+        """The text that is answered to each question, or why none is."""
+        asked = [(kind, *parts_of(question, options)) for question in questions]
+        texts: list[tuple[bytes, str]] = []
+        while len(texts) < len(asked):
+            found: list[tuple[int, list[bytes]]] = []
+            why = []
+            try:
+                self._ask_all(asked[len(texts) :], found)
+            except (TimeoutError, MemoryError) as error:
+                why = [(b"", str(error))]
+            texts += [(text, "") for _, (text,) in found] + why
+        return texts
 
     def stop(self) -> None:
-        """Ends the process in the middle of another thread's call, which raises RuntimeError."""
+        """Ends the process in the middle of another thread's call, which raises RuntimeError. What
+        is asked later, or has its process only then, has no time."""
+        self._seconds = 0.0
         if self._asked:
             self._asked.stop()
 
 
-def _add_certificate(row: Row, files: dict[str, bytes], options: Options) -> None:
-    """Adds to a row how long the certificate is that was made, or that none was."""
+def _answer_of(question: Question, text: tuple[bytes, str], options: Options) -> Answer:
+    """The answer to a question, or why there is none: of bounds, or of something else."""
+    said, why = text
+    row: Row = {
+        "file": question.name,
+        "verdict": "undecided",
+        "fit": False,
+        "notes": [why],
+    }
+    row = json.loads(said) if said else {**row, "limit": options.limit()}
+    row["tool"], row["digest"] = _tool(), digest_of(question.data)
+    return Answer(row, {}, why in _BOUNDS and "missing" not in row)
+
+
+def _with_certificate(answer: Answer, text: tuple[bytes, str], options: Options) -> Answer:
+    """Adds the certificate that was made, or that none was."""
+    row, (said, why) = answer.row, text
+    found = json.loads(said) if said else {}
+    files = {ending: data.encode("ascii") for ending, data in found.items()}
     certificate = files.get(".cert", files.get(".ppm.cert"))
     if certificate is None:
         row["limit"] = options.limit()
@@ -70,13 +100,16 @@ def _add_certificate(row: Row, files: dict[str, bytes], options: Options) -> Non
     else:
         row["lines"] = certificate.count(b"\n")
         row["files"] = {ending: digest_of(files[ending]) for ending in sorted(files)}
+    return Answer(row, files, why in _BOUNDS)
 
 
 _kept = threading.local()
 
 
 def judge(
-    questions: Sequence[Question], options: Options = Options(), asked_by: Optional[str] = None
+    questions: Sequence[Question],
+    options: Options = Options(),
+    asked_by: Optional[str] = None,
 ) -> list[Answer]:
     """The answers to some questions, by the process that this thread keeps. `asked_by` is the
     version of who asks: another one has other answers."""
@@ -86,7 +119,8 @@ def judge(
     if getattr(_kept, "bounds", None) != bounds:
         _kept.judge, _kept.bounds = Judge(options), bounds
         getattr(_kept, "judges", []).append(_kept.judge)
-    return [_kept.judge.answer(question, options) for question in questions]
+    found: list[Answer] = _kept.judge.answers(questions, options)
+    return found
 
 
 def audit(
@@ -152,47 +186,57 @@ def arrivals(
 ) -> Iterator[list[Arrival]]:
     """The answers as they come, each with the number of its puzzle. Leaving the loop cancels what
     waits."""
-    waiting: dict[int, tuple[Entry, Future[list[Answer]]]] = {}  # the lowest number first
+    waiting: dict[int, Pack] = {}  # by the number of its first puzzle, the lowest first
     come: SimpleQueue[int] = SimpleQueue()
     size = 0
     try:
-        for number, entry in enumerate(entries):
-            future = _asked(entry, options, executor)
-            waiting[number] = entry, future
-            size += entry.size()
-            future.add_done_callback(lambda _, number=number: come.put(number))  # type: ignore[misc]
+        for number, pack in _packs(entries, options, executor):
+            waiting[number] = pack
+            size += pack.size
+            pack.future.add_done_callback(lambda _, number=number: come.put(number))  # type: ignore
             while waiting and (
                 (size > MOST_BYTES or number - next(iter(waiting)) >= MOST_AHEAD)
                 or (len(waiting) >= LEAST_AHEAD and not come.empty())
             ):
-                found = _taken(waiting, come)
-                size -= sum(entry.size() for _, entry, _ in found)
-                yield found
+                first = come.get()
+                size -= waiting[first].size
+                yield waiting.pop(first).answers(first)
         while waiting:
-            yield _taken(waiting, come)
+            first = come.get()
+            yield waiting.pop(first).answers(first)
     finally:
-        for _, future in waiting.values():
-            future.cancel()
+        for pack in waiting.values():
+            pack.future.cancel()
 
 
-def _taken(
-    waiting: dict[int, tuple[Entry, Future[list[Answer]]]], come: SimpleQueue[int]
-) -> list[Arrival]:
-    """Takes what has come out of what waits: at least one."""
-    numbers = [come.get()]
-    with contextlib.suppress(Empty):
-        while True:
-            numbers.append(come.get_nowait())
-    taken = [(number, *waiting.pop(number)) for number in numbers]
-    return [(number, entry, future.result()[0]) for number, entry, future in taken]
+class Pack(NamedTuple):
+    """Puzzles that go together, since to ask about one takes as long as a small one takes."""
+
+    entries: list[Entry]
+    size: int
+    future: Future[list[Answer]]
+
+    def answers(self, first: int) -> list[Arrival]:
+        """Their answers."""
+        made = iter(self.future.result())
+        found = [next(made) if one.question else Answer(one.row) for one in self.entries]
+        return list(zip(itertools.count(first), self.entries, found))
 
 
-def _asked(entry: Entry, options: Options, executor: Executor) -> Future[list[Answer]]:
-    if entry.question is not None:
-        return executor.submit(judge, [entry.question], options, _tool())
-    known: Future[list[Answer]] = Future()
-    known.set_result([Answer(entry.row)])
-    return known
+def _packs(
+    entries: Iterable[Entry], options: Options, executor: Executor
+) -> Iterator[tuple[int, Pack]]:
+    all_entries = iter(entries)
+    number = 0
+    while pack := list(itertools.islice(all_entries, TOGETHER)):
+        asked = [entry.question for entry in pack if entry.question]
+        future: Future[list[Answer]] = Future()
+        if asked:
+            future = executor.submit(judge, asked, options, _tool())
+        else:
+            future.set_result([])
+        yield number, Pack(pack, sum(map(Entry.size, pack)), future)
+        number += len(pack)
 
 
 def key_of(question: Question, options: Options) -> str:
