@@ -76,9 +76,7 @@ def _project():
     )
     tables = dict(re.findall(r"^\[([\w.-]+)\]\n((?:(?!\[).+\n)*)", text, re.MULTILINE))
     extras = re.findall(
-        r"^([\w-]+) = \[(.*)\]$",
-        tables.get("project.optional-dependencies", ""),
-        re.MULTILINE,
+        r"^([\w-]+) = \[(.*)\]$", tables.get("project.optional-dependencies", ""), re.MULTILINE
     )
     scripts = re.findall(r'^([\w-]+) = "(.*)"$', tables.get("project.scripts", ""), re.MULTILINE)
     listed = {

@@ -66,10 +66,7 @@ def chequered(side, colours):
 
 def p3_of_letters(rows):
     """A P3 text of rows of letters in colours that differ much."""
-    triples = {
-        ".": "255 255 255",
-        **{chr(97 + at): f"{40 * at} 0 0" for at in range(7)},
-    }
+    triples = {".": "255 255 255", **{chr(97 + at): f"{40 * at} 0 0" for at in range(7)}}
     cells = "\n".join(triples[letter] for row in rows for letter in row)
     return f"P3 {len(rows[0])} {len(rows)} 255\n{cells}\n".encode()
 

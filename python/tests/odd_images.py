@@ -25,12 +25,7 @@ BROKEN = (  # refused too, since it is no whole image of its format, or of a kin
     "broken"
 )
 CLEAR = (0, 0, 0, 0)  # what is transparent has no other colour
-WHITE, BLACK, RED, BLUE = (
-    (255, 255, 255, 255),
-    (0, 0, 0, 255),
-    (255, 0, 0, 255),
-    (0, 0, 200, 255),
-)
+WHITE, BLACK, RED, BLUE = (255, 255, 255, 255), (0, 0, 0, 255), (255, 0, 0, 255), (0, 0, 200, 255)
 COLOURS = [WHITE, BLACK, RED, BLUE]
 CELLS = [
     [1, 0, 2, 2, 0],
@@ -79,10 +74,7 @@ def filtered(kind, line, before, step):
     for at, value in enumerate(line):
         a, b, c = left[at], before[at], corner[at]
         near = min(
-            (abs(b - c), a),
-            (abs(a - c), b),
-            (abs(a + b - 2 * c), c),
-            key=lambda pair: pair[0],
+            (abs(b - c), a), (abs(a - c), b), (abs(a + b - 2 * c), c), key=lambda pair: pair[0]
         )[1]
         made.append((value - (0, a, b, (a + b) // 2, near, 0)[kind]) % 256)
     return bytes([kind, *made])
@@ -108,16 +100,7 @@ def pieces(rows, is_laced):
         yield [row for row in taken if row]
 
 
-def png(
-    rows,
-    depth,
-    kind,
-    more=(),
-    is_laced=False,
-    filters=(0,),
-    end=chunk(b"IEND"),
-    size=None,
-):
+def png(rows, depth, kind, more=(), is_laced=False, filters=(0,), end=chunk(b"IEND"), size=None):
     """A PNG of rows of pixels, each a tuple of samples. `more` are the chunks before the pixels."""
     step = max(1, len(rows[0][0]) * depth // 8)
     data = b""
@@ -146,16 +129,7 @@ def palette_chunk(colours):
 GREY, RGB, INDEXED, GREY_ALPHA, RGBA = 0, 2, 3, 4, 6
 PALETTE = palette_chunk(COLOURS)
 SRGB = chunk(b"sRGB", b"\0")
-STANDARD = (
-    31270,
-    32900,
-    64000,
-    33000,
-    30000,
-    60000,
-    15000,
-    6000,
-)  # the primaries of sRGB
+STANDARD = (31270, 32900, 64000, 33000, 30000, 60000, 15000, 6000)  # the primaries of sRGB
 WIDE = (31270, 32900, 64000, 33000, 21000, 71000, 15000, 6000)  # those of Adobe's RGB
 PRIMARIES, OTHERS = (chunk(b"cHRM", struct.pack(">8I", *values)) for values in (STANDARD, WIDE))
 PLAIN_GAMMA = chunk(b"gAMA", struct.pack(">I", 45455))
@@ -178,11 +152,7 @@ def png_samples(depth, kind):
         return [[(levels[cell],) for cell in row] for row in CELLS], [], shown(greys)
     if kind == GREY_ALPHA:
         opaque = [(level, most if at else 0) for at, level in enumerate(levels)]
-        return (
-            [[opaque[cell] for cell in row] for row in CELLS],
-            [],
-            shown([CLEAR, *greys[1:]]),
-        )
+        return [[opaque[cell] for cell in row] for row in CELLS], [], shown([CLEAR, *greys[1:]])
     scaled = [
         tuple(sample * most // 255 for sample in colour[: 3 if kind == RGB else 4])
         for colour in COLOURS
@@ -266,10 +236,7 @@ def png_clear():
             None,
             HALF,
         )
-    unused = [
-        palette_chunk([*COLOURS, (9, 9, 9)]),
-        chunk(b"tRNS", bytes([255, 255, 255, 255, 77])),
-    ]
+    unused = [palette_chunk([*COLOURS, (9, 9, 9)]), chunk(b"tRNS", bytes([255, 255, 255, 255, 77]))]
     yield Odd("png-palette-half-unused", png(rows, 8, INDEXED, unused), shown(COLOURS))
     for opacity in (1, 127, 254):
         half = [
@@ -281,11 +248,7 @@ def png_clear():
 
 # Colorants of sRGB, and of Adobe's RGB, for the white of D50; and curves.
 XYZ = ((0.4361, 0.2225, 0.0139), (0.3851, 0.7169, 0.0971), (0.1431, 0.0606, 0.7139))
-WIDE_XYZ = (
-    (0.6097, 0.3111, 0.0195),
-    (0.2053, 0.6257, 0.0609),
-    (0.1492, 0.0632, 0.7446),
-)
+WIDE_XYZ = ((0.6097, 0.3111, 0.0195), (0.2053, 0.6257, 0.0609), (0.1492, 0.0632, 0.7446))
 FORMULA = (2.4, 1 / 1.055, 0.055 / 1.055, 1 / 12.92, 0.04045)
 
 
@@ -342,11 +305,7 @@ def png_colours():
         ("gamma-1000", [chunk(b"gAMA", struct.pack(">I", 1000))], GAMMA),
         ("gamma-0", [chunk(b"gAMA", struct.pack(">I", 0))], GAMMA),
         ("srgb-gamma-1000", [SRGB, chunk(b"gAMA", struct.pack(">I", 1000))], GAMMA),
-        (
-            "gamma-1000-primaries",
-            [chunk(b"gAMA", struct.pack(">I", 1000)), PRIMARIES],
-            GAMMA,
-        ),
+        ("gamma-1000-primaries", [chunk(b"gAMA", struct.pack(">I", 1000)), PRIMARIES], GAMMA),
         ("gamma-short", [chunk(b"gAMA", b"\1")], BROKEN),
         ("profile", [profile], PROFILE),
         ("srgb-profile", [SRGB, profile], PROFILE),
@@ -372,10 +331,7 @@ def png_colours():
         ("srgb-last", [PLAIN_GAMMA, OTHERS, SRGB], ""),
         (
             "luminance",
-            [
-                chunk(b"mDCV", bytes(24)),
-                chunk(b"cLLI", struct.pack(">2I", 10000000, 4000000)),
-            ],
+            [chunk(b"mDCV", bytes(24)), chunk(b"cLLI", struct.pack(">2I", 10000000, 4000000))],
             "",
         ),
     ):
@@ -405,9 +361,7 @@ def png_colours():
         )
     black = [[(1,), (0,), (1,)]]
     yield Odd(
-        "png-corners-grey",
-        png(black, 1, GREY, [PLAIN_GAMMA, PRIMARIES]),
-        [[WHITE, BLACK, WHITE]],
+        "png-corners-grey", png(black, 1, GREY, [PLAIN_GAMMA, PRIMARIES]), [[WHITE, BLACK, WHITE]]
     )
     clear = chunk(b"tRNS", b"\0")
     for name, colours, reason in (
@@ -423,19 +377,11 @@ def png_colours():
         )
     grey = [[(90,), (255,)], [(255,), (160,)]]
     yield Odd(
-        "png-grey-gamma",
-        png(grey, 8, GREY, [chunk(b"gAMA", struct.pack(">I", 1000))]),
-        None,
-        GAMMA,
+        "png-grey-gamma", png(grey, 8, GREY, [chunk(b"gAMA", struct.pack(">I", 1000))]), None, GAMMA
     )
     yield Odd(
         "png-bits-palette",
-        png(
-            *png_samples(8, INDEXED)[:1],
-            8,
-            INDEXED,
-            [chunk(b"sBIT", b"\1\1\1"), PALETTE],
-        ),
+        png(*png_samples(8, INDEXED)[:1], 8, INDEXED, [chunk(b"sBIT", b"\1\1\1"), PALETTE]),
         shown(COLOURS),
     )
     ground = chunk(b"bKGD", b"\1")
@@ -447,9 +393,7 @@ def png_colours():
             reason,
         )
     yield Odd(
-        "png-background-rgb-palette",
-        png(rows, 8, RGB, [chunk(b"bKGD", bytes(6)), PALETTE]),
-        pixels,
+        "png-background-rgb-palette", png(rows, 8, RGB, [chunk(b"bKGD", bytes(6)), PALETTE]), pixels
     )
     yield Odd(
         "png-bits-grey-2",
@@ -486,10 +430,7 @@ def png_frames():
     yield Odd("apng-late", png(rows, 8, RGB, end=one + hidden), None, FRAMES)
     yield Odd("apng-frames-alone", png(rows, 8, RGB, end=hidden), None, FRAMES)
     yield Odd(
-        "apng-frame-first",
-        png(rows, 8, RGB, [chunk(b"fdAT", bytes(4) + body)]),
-        None,
-        FRAMES,
+        "apng-frame-first", png(rows, 8, RGB, [chunk(b"fdAT", bytes(4) + body)]), None, FRAMES
     )
 
 
@@ -506,10 +447,7 @@ def png_broken():
         ("no-palette", png(rows, 8, INDEXED)),
         ("two-palettes", png(rows, 8, INDEXED, [few, PALETTE])),
         ("hole-4", png(rows, 4, INDEXED, [few])),
-        (
-            "hole-clear",
-            png(rows, 8, INDEXED, [few, chunk(b"tRNS", bytes([255] * 3 + [0]))]),
-        ),
+        ("hole-clear", png(rows, 8, INDEXED, [few, chunk(b"tRNS", bytes([255] * 3 + [0]))])),
         ("palette-empty", png(rows, 8, INDEXED, [chunk(b"PLTE")])),
         ("clear-first", png(rows, 8, INDEXED, [clear, PALETTE])),
         ("clear-twice", png(rows, 8, INDEXED, [PALETTE, clear, clear])),
@@ -553,11 +491,7 @@ def png_broken():
     yield Odd("png-more-rows", png(rgb + rgb, 8, RGB, size=(5, 4)), shown(COLOURS))
     body = good[at + 4 : at + 4 + struct.unpack(">I", good[at - 4 : at])[0]]
     parts = b"".join(chunk(b"IDAT", body[one : one + 3]) for one in range(0, len(body), 3))
-    yield Odd(
-        "png-parts",
-        good[: at - 4] + parts + chunk(b"IDAT") + chunk(b"IEND"),
-        shown(COLOURS),
-    )
+    yield Odd("png-parts", good[: at - 4] + parts + chunk(b"IDAT") + chunk(b"IEND"), shown(COLOURS))
 
 
 # PPM, PGM, PBM: no browser shows them, so what is expected comes from the definition of these
@@ -580,11 +514,7 @@ def pnms():
     head = "P{} # kind\n# P6 9 9\r5# columns\n\t4 # rows\n"
     for name, data, wanted in (
         ("1", f"P1 5 4 {plain_bits}", bits),
-        (
-            "1-comments",
-            f"{head.format(1)}{plain_bits}".replace("\n1", " # 0 1\n1"),
-            bits,
-        ),
+        ("1-comments", f"{head.format(1)}{plain_bits}".replace("\n1", " # 0 1\n1"), bits),
         ("1-blanks", "P1 5 4\n" + " ".join(plain_bits), bits),
         ("1-two", "P1 2 1 0 2", BROKEN),
         ("1-short", "P1 5 4 0101", BROKEN),
@@ -596,11 +526,7 @@ def pnms():
         ("4-comment-last", b"P4 5 4 # x\n" + raw_bits, BROKEN),
         ("4-wide", b"P4 9 1\n\x80\x80", [[BLACK, *[WHITE] * 7, BLACK]]),
         ("2-zeros", "P2 0002 01 0003 003 00", [[grey(3, 3), grey(0, 3)]]),
-        (
-            "2-many-zeros",
-            f"P2 2 1 3 {'0' * 5000}2 {'0' * 5000}",
-            [[grey(2, 3), grey(0, 3)]],
-        ),
+        ("2-many-zeros", f"P2 2 1 3 {'0' * 5000}2 {'0' * 5000}", [[grey(2, 3), grey(0, 3)]]),
         ("2-digits", f"P2 1 1 3 {'9' * 5000}", BROKEN),
         ("1-zeros", f"P1 {'0' * 5000}2 1 01", [[WHITE, BLACK]]),
         ("2-long", "P2 9999999999 1 1 0", BROKEN),

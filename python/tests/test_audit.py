@@ -140,11 +140,7 @@ class Names(Case):
         self.run_audit("site", "--certify", "certs", "--ppm", "pairs", status=1)
         names = ["dark.ppm", "given.ppm", "small/one.png"]
         self.assertEqual(self.files("certs"), [f"{name}.cert" for name in names])
-        more = {
-            "dark.ppm": [".background"],
-            "given.ppm": [".givens"],
-            "small/one.png": [],
-        }
+        more = {"dark.ppm": [".background"], "given.ppm": [".givens"], "small/one.png": []}
         more["small/one.png"] = [".background"]  # chosen, and named from then on
         self.assertEqual(
             self.files("pairs"),
@@ -216,20 +212,11 @@ class Folders(Case):
             ([path, "--certify", "x"], "has no place below"),
             (["../x/site/one.ppm", "--beside", "other"], "no such file"),
             (["other/../site/one.ppm", "--ppm", "x"], "has no place below"),
-            (
-                ["site", "--jsonl", "site/rows.jsonl"],
-                "lies in 'site', which is searched",
-            ),
+            (["site", "--jsonl", "site/rows.jsonl"], "lies in 'site', which is searched"),
             (["site", "--certify", "site"], "lies in 'site', which is searched"),
             (["site", "--ppm", "site/made"], "lies in 'site', which is searched"),
-            (
-                ["site/one.ppm", "--csv", "site/one.ppm"],
-                "is an input, or another output",
-            ),
-            (
-                ["site", "--csv", "x", "--jsonl", "./x"],
-                "is an input, or another output",
-            ),
+            (["site/one.ppm", "--csv", "site/one.ppm"], "is an input, or another output"),
+            (["site", "--csv", "x", "--jsonl", "./x"], "is an input, or another output"),
             (["site", "--html", "other"], "is no name for an output"),
             (["site", "--csv", "-", "--jsonl", "-"], "room for one"),
             (["site", "--html", "-"], "room for one"),
@@ -295,11 +282,7 @@ class Strangers(Case):
         self.assertEqual(rows["given.xml"]["ignored"], ["givens in the XML"])
         why = "its background 0,0,0 is not believed: name it"
         self.assertEqual(
-            (
-                rows["dark.xml"]["verdict"],
-                rows["dark.xml"]["error"],
-                rows["dark.xml"]["fit"],
-            ),
+            (rows["dark.xml"]["verdict"], rows["dark.xml"]["error"], rows["dark.xml"]["fit"]),
             ("error", why, False),
         )
         ours = self.folder / "ours"
@@ -456,11 +439,7 @@ class Rows(Case):
         self.put("given.ppm.givens", "given 1 1\n")
         rows = self.rows("site", status=1)
         flaws = {name: row["flaws"] for name, row in rows.items()}
-        wanted = {
-            "blank.ppm": ["blank"],
-            "given.ppm": ["given 1 1"],
-            "near.ppm": ["alike . a"],
-        }
+        wanted = {"blank.ppm": ["blank"], "given.ppm": ["given 1 1"], "near.ppm": ["alike . a"]}
         self.assertEqual(flaws, wanted)
         self.assertEqual({row["fit"] for row in rows.values()}, {False})
         # What is allowed is fit, in the row as in the status.
@@ -480,13 +459,7 @@ class Rows(Case):
         self.put("e.ppm", p3(AMBIGUOUS[::-1]))
         rows = self.rows("site")
         same = {name: row.get("same_as") for name, row in rows.items()}
-        wanted = {
-            "a.ppm": None,
-            "b.ppm": "a.ppm",
-            "c.ppm": None,
-            "d.ppm": None,
-            "e.ppm": "d.ppm",
-        }
+        wanted = {"a.ppm": None, "b.ppm": "a.ppm", "c.ppm": None, "d.ppm": None, "e.ppm": "d.ppm"}
         self.assertEqual(same, wanted)
         self.assertIn("b.ppm; same clues as a.ppm", self.run_audit("site").stdout)
 
@@ -734,12 +707,7 @@ class Resume(Case):
         self.put("a.ppm.givens", "given 1 1\n")
         self.put("a.ppm.background", "255,255,255")
         self.run_audit("site", "--ppm", "pairs", status=0)
-        made = [
-            "a.ppm.ppm",
-            "a.ppm.ppm.background",
-            "a.ppm.ppm.cert",
-            "a.ppm.ppm.givens",
-        ]
+        made = ["a.ppm.ppm", "a.ppm.ppm.background", "a.ppm.ppm.cert", "a.ppm.ppm.givens"]
         self.assertEqual(sorted(os.listdir(self.folder / "pairs")), made)
         for ending in (".givens", ".background"):
             (self.site / f"a.ppm{ending}").unlink()
@@ -790,11 +758,7 @@ class Resume(Case):
         self.assertIn("b.ppm", (self.folder / "x.csv").read_text())
         for words in (["--html", "x.html"], ["--scheduler", "tcp://x:9999x"]):
             done = subprocess.run(
-                [
-                    sys.executable,
-                    "-S",
-                    *self.words("site", "--jsonl", "rows.jsonl", *words)[1:],
-                ],
+                [sys.executable, "-S", *self.words("site", "--jsonl", "rows.jsonl", *words)[1:]],
                 cwd=self.folder,
                 env=self.env(),
                 capture_output=True,
@@ -806,16 +770,7 @@ class Resume(Case):
     def test_two_runs_at_once(self):
         self.put("a.ppm", p3(UNIQUE))
         self.put("hard.ppm", HARD)
-        outputs = [
-            "--csv",
-            "x.csv",
-            "--jsonl",
-            "x.jsonl",
-            "--sqlite",
-            "x.db",
-            "--certify",
-            "certs",
-        ]
+        outputs = ["--csv", "x.csv", "--jsonl", "x.jsonl", "--sqlite", "x.db", "--certify", "certs"]
         process = self.start("site", *outputs)
         path = self.folder / "x.jsonl"
         eventually(path.exists)
@@ -1003,11 +958,7 @@ class Outputs(Case):
         words = self.words("site", "--jsonl", "-")
         with open("/dev/full", "w") as full:
             done = subprocess.run(
-                words,
-                cwd=self.folder,
-                env=self.env(),
-                stdout=full,
-                stderr=subprocess.PIPE,
+                words, cwd=self.folder, env=self.env(), stdout=full, stderr=subprocess.PIPE
             )
         self.assertEqual((done.returncode, b"No space left" in done.stderr), (3, True))
         process = self.start("site", "--jsonl", "-")
@@ -1059,18 +1010,10 @@ class Outputs(Case):
         self.put("two.ppm", p3(UNIQUE))
         # Without the packages of Debian and of the user there are Python's own libraries only.
         words = [sys.executable, "-S", *self.words("site", "--jsonl", "rows.jsonl")[1:]]
-        more = {
-            "cwd": self.folder,
-            "env": self.env(),
-            "capture_output": True,
-            "text": True,
-        }
+        more = {"cwd": self.folder, "env": self.env(), "capture_output": True, "text": True}
         done = subprocess.run(words, **more)
         self.assertEqual(done.returncode, 3)
-        self.assertIn(
-            "1 not read, since Pillow is not installed (pip install Pillow)",
-            done.stderr,
-        )
+        self.assertIn("1 not read, since Pillow is not installed (pip install Pillow)", done.stderr)
         rows = self.read("rows.jsonl")
         self.assertEqual((rows["one.png"]["missing"], rows["two.ppm"]["fit"]), ("Pillow", True))
         self.assertNotIn("key", rows["one.png"])
@@ -1085,15 +1028,7 @@ class Outputs(Case):
     def test_the_current_folder_is_not_run(self):
         self.put("one.png", image("PNG"))
         self.put("one.xml", webpbn(UNIQUE))
-        for name in (
-            "resource",
-            "PIL",
-            "defusedxml",
-            "hashlib",
-            "zlib",
-            "struct",
-            "sqlite3",
-        ):
+        for name in ("resource", "PIL", "defusedxml", "hashlib", "zlib", "struct", "sqlite3"):
             self.put(f"{name}.py", f"open({str(self.folder / 'run')!r}, 'a').write('{name}')")
         source = f"import sys; sys.path.insert(0, {str(ROOT / 'python' / 'src')!r})"
         code = f"{source}; from nonobench.collection import main; sys.exit(main())"

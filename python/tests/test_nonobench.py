@@ -37,17 +37,7 @@ ROOT = Path(__file__).resolve().parent.parent.parent
 DIAGONAL = b"P3 2 2 255 0 0 0 255 255 255 255 255 255 0 0 0\n"
 GIVEN = b"nonocert 2\ngiven 1 1\nline r 1\nline c 1\nline r 2\ndone\n"
 TRIPLES = {".": (255, 255, 255), "a": (0, 0, 0), "b": (255, 0, 0)}
-ESCAPES = {
-    "n": 10,
-    "t": 9,
-    "r": 13,
-    "v": 11,
-    "f": 12,
-    "a": 7,
-    "b": 8,
-    "e": 27,
-    "\\": 92,
-}
+ESCAPES = {"n": 10, "t": 9, "r": 13, "v": 11, "f": 12, "a": 7, "b": 8, "e": 27, "\\": 92}
 
 
 def bytes_of(text):
@@ -146,8 +136,7 @@ class Cases(unittest.TestCase):
             self.compare(asked, answer, lambda: nonobench.check(*pair, published=places))
             with self.subTest(asked):
                 self.assertEqual(
-                    givens_of(lambda: nonobench.check(*pair, published=places)),
-                    places_of(givens),
+                    givens_of(lambda: nonobench.check(*pair, published=places)), places_of(givens)
                 )
             count += 1
         self.assertGreater(count, 20)
@@ -180,8 +169,7 @@ class Answers(unittest.TestCase):
             nonobench.check(DIAGONAL, GIVEN)
         self.assertEqual((caught.exception.name, caught.exception.line), ("UnpublishedGiven", 2))
         self.assertEqual(
-            nonobench.check(DIAGONAL, GIVEN, published=b"given 2 2\ngiven 1 1").givens,
-            ((1, 1),),
+            nonobench.check(DIAGONAL, GIVEN, published=b"given 2 2\ngiven 1 1").givens, ((1, 1),)
         )
         for published, name, line in (
             ([(1, 1), (3, 1)], "Place", 2),
@@ -197,8 +185,7 @@ class Answers(unittest.TestCase):
             self.assertEqual((refused.exception.name, refused.exception.line), (name, line))
         again = pickle.loads(pickle.dumps(caught.exception))
         self.assertEqual(
-            (again.givens, str(again)),
-            (((1, 1),), "certificate UnpublishedGiven at line 2"),
+            (again.givens, str(again)), (((1, 1),), "certificate UnpublishedGiven at line 2")
         )
         with self.assertRaises(CertificateError) as caught:
             nonobench.check(DIAGONAL, b"nonocert 1\nline r 3\n")
@@ -213,27 +200,9 @@ class Answers(unittest.TestCase):
         clues = b"width 1\nheight 1\nrows\n1\ncolumns\n1\n"
         long = b" " * 16777217
         for call, kind, *told in (
-            (
-                lambda: nonobench.clues(b"P3 1 1 1 0 0 2"),
-                PictureError,
-                "SampleOver",
-                13,
-                None,
-            ),
-            (
-                lambda: nonobench.assess(clues, non=True),
-                PictureError,
-                "NoGoal",
-                None,
-                None,
-            ),
-            (
-                lambda: nonobench.check(DIAGONAL, b""),
-                CertificateError,
-                "NotCert",
-                None,
-                1,
-            ),
+            (lambda: nonobench.clues(b"P3 1 1 1 0 0 2"), PictureError, "SampleOver", 13, None),
+            (lambda: nonobench.assess(clues, non=True), PictureError, "NoGoal", None, None),
+            (lambda: nonobench.check(DIAGONAL, b""), CertificateError, "NotCert", None, 1),
             (
                 lambda: nonobench.check(DIAGONAL, GIVEN),
                 UnpublishedGivenError,
@@ -249,20 +218,11 @@ class Answers(unittest.TestCase):
                 1,
             ),
             (lambda: nonobench.clues(long), LengthError, "TooLong", None, None),
-            (
-                lambda: nonobench.picture_of_image(b"GIF89a"),
-                ImageError,
-                "not read",
-                None,
-                None,
-            ),
+            (lambda: nonobench.picture_of_image(b"GIF89a"), ImageError, "not read", None, None),
         ):
             with self.subTest(kind), self.assertRaises(ValueError) as caught:
                 call()
-            for error in (
-                caught.exception,
-                pickle.loads(pickle.dumps(caught.exception)),
-            ):
+            for error in (caught.exception, pickle.loads(pickle.dumps(caught.exception))):
                 self.assertIs(type(error), kind)
                 self.assertIsInstance(error, nonobench.NonobenchError)
                 self.assertEqual([error.name, error.byte, error.line], told)
@@ -287,8 +247,7 @@ class Answers(unittest.TestCase):
             self.assertEqual(nonobench.check(picture, certificate).givens, ())
             audit = nonobench.audit(picture, allowance=5)
             self.assertEqual(
-                (audit.verdict, audit.certificate),
-                (nonobench.Verdict(Ruling.UNIQUE), certificate),
+                (audit.verdict, audit.certificate), (nonobench.Verdict(Ruling.UNIQUE), certificate)
             )
         self.assertIsNone(nonobench.certify(DIAGONAL))
         audit = nonobench.audit(DIAGONAL)
@@ -309,20 +268,15 @@ class Answers(unittest.TestCase):
         for picture in (tile, pair):
             proved = nonobench.prove(picture)
             self.assertEqual(
-                (proved.ruling, proved.certificate[:12]),
-                (Ruling.UNIQUE, b"nonolemma 2\n"),
+                (proved.ruling, proved.certificate[:12]), (Ruling.UNIQUE, b"nonolemma 2\n")
             )
             self.assertEqual(
-                str(nonobench.check(picture, proved.certificate)),
-                "certificate accepted\n",
+                str(nonobench.check(picture, proved.certificate)), "certificate accepted\n"
             )
         self.assertEqual(nonobench.prove(DIAGONAL), nonobench.Proved(Ruling.AMBIGUOUS))
         # Nothing proves a picture that has another one: not the certificate of another picture, nor
         # lines of its own.
-        for text in (
-            nonobench.prove(pair).certificate,
-            b"nonolemma 2\nline r1 c1 r2 c2\ndone\n",
-        ):
+        for text in (nonobench.prove(pair).certificate, b"nonolemma 2\nline r1 c1 r2 c2\ndone\n"):
             with self.assertRaises(CertificateError):
                 nonobench.check(DIAGONAL, text, published=ANY_GIVEN)
         with self.assertRaises(UnpublishedGivenError) as caught:
@@ -395,10 +349,7 @@ class Answers(unittest.TestCase):
         ):
             with self.assertRaisesRegex(GivensError, f"^givens {why}$"):
                 nonobench.assess(
-                    clues,
-                    b"nonocert 2\n" + lines + b"done\n",
-                    published=ANY_GIVEN,
-                    non=True,
+                    clues, b"nonocert 2\n" + lines + b"done\n", published=ANY_GIVEN, non=True
                 )
 
     def test_certificates_with_a_byte_changed(self):
@@ -636,8 +587,7 @@ class Chance(unittest.TestCase):
             words = [] if background is None else ["--background", ",".join(map(str, background))]
             self.put("picture", picture)
             answer = self.run_program(
-                ["work", "picture", *words],
-                b"allow 500\nverdict\nclues\nallow off\ncertify\n",
+                ["work", "picture", *words], b"allow 500\nverdict\nclues\nallow off\ncertify\n"
             )
             with self.subTest(picture=picture, background=background):
                 if answer[2] != 0:
@@ -651,8 +601,7 @@ class Chance(unittest.TestCase):
                 proved = nonobench.prove(picture, background)
                 answer = self.run_program(["prove", "picture", *words])
                 self.assertEqual(
-                    (proved.certificate or proved.ruling.value.encode() + b"\n").decode(),
-                    answer[0],
+                    (proved.certificate or proved.ruling.value.encode() + b"\n").decode(), answer[0]
                 )
                 certificate = marred(
                     source.choice([certificate, proved.certificate or b""]), source, 3
@@ -673,8 +622,7 @@ class Chance(unittest.TestCase):
                     ["check", "--givens", "givens", "picture", "cert", *words]
                 )
                 self.assertEqual(
-                    told(lambda: nonobench.check(picture, certificate, background, givens)),
-                    answer,
+                    told(lambda: nonobench.check(picture, certificate, background, givens)), answer
                 )
                 published += answer[2] == 0
         self.assertGreater(
@@ -685,11 +633,7 @@ class Chance(unittest.TestCase):
 
 def chance_picture(source):
     """A picture of some colours."""
-    rows, columns, colours = (
-        source.randint(1, 9),
-        source.randint(1, 9),
-        source.randint(1, 4),
-    )
+    rows, columns, colours = source.randint(1, 9), source.randint(1, 9), source.randint(1, 4)
     triples = [(255, 255, 255)] + [(40 * at, at, 250 - at) for at in range(colours)]
     return nonobench.picture_of(
         columns,

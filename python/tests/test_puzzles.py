@@ -10,17 +10,7 @@ import unittest
 from pathlib import Path
 
 sys.path.insert(0, str(Path(__file__).resolve().parent))
-from audit_parts import (
-    AMBIGUOUS,
-    BLACK,
-    RED,
-    ROOT,
-    UNIQUE,
-    WHITE,
-    image,
-    p3,
-    webpbn,
-)  # noqa: E402
+from audit_parts import AMBIGUOUS, BLACK, RED, ROOT, UNIQUE, WHITE, image, p3, webpbn  # noqa: E402
 
 from PIL.PngImagePlugin import PngInfo  # noqa: E402
 
@@ -158,12 +148,7 @@ class NonTexts(unittest.TestCase):
         self.assertEqual(nonobench.certify(ROW), b"nonocert 1\nline r 1\ndone\n")
         self.assertEqual(nonobench.audit(CLUES).verdict.ruling, Ruling.AMBIGUOUS)
         self.assertTrue(nonobench.assess(GOAL, published=[(1, 1)]).is_fit)
-        for call in (
-            nonobench.clues,
-            nonobench.verdict,
-            nonobench.certify,
-            nonobench.assess,
-        ):
+        for call in (nonobench.clues, nonobench.verdict, nonobench.certify, nonobench.assess):
             with self.assertRaisesRegex(ValueError, "^background goes with a P3 text$"):
                 call(GOAL, background=BLACK)
         # A word says which it is.

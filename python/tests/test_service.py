@@ -110,20 +110,13 @@ def test_what_a_strangers_xml_names_is_not_believed(client):
     row = row_of(client, "/assess", puzzle=XML, background="0,0,0")
     assert "givens" not in row and row["ignored"] == ["givens in the XML"]
     row = row_of(client, "/assess", puzzle=XML, background="0,0,0", givens="given 1 2\n")
-    assert (row["verdict"], row["background"], row["givens"]) == (
-        "unique",
-        "000000",
-        [[1, 2]],
-    )
+    assert (row["verdict"], row["background"], row["givens"]) == ("unique", "000000", [[1, 2]])
 
 
 def test_a_certificate_is_checked(client):
     pair = {"puzzle": "given.ppm", "certificate": "given.ppm.cert"}
     row = row_of(client, "/check", **pair, givens="given.ppm.givens")
-    assert (row["fit"], row["certificate"]) == (
-        True,
-        {"accepted": True, "givens": [[1, 1]]},
-    )
+    assert (row["fit"], row["certificate"]) == (True, {"accepted": True, "givens": [[1, 1]]})
     row = row_of(client, "/check", **pair)
     assert not row["fit"] and "UnpublishedGiven" in row["error"]
     assert not row_of(client, "/check", puzzle="heart.ppm")["fit"]  # without one
@@ -131,10 +124,7 @@ def test_a_certificate_is_checked(client):
 
 def test_a_certificate_is_made(client):
     row = row_of(client, "/prove", puzzle="heart.ppm")
-    certificate, picture = (
-        row["certificate_text"],
-        (EXAMPLES / "heart.ppm").read_bytes(),
-    )
+    certificate, picture = row["certificate_text"], (EXAMPLES / "heart.ppm").read_bytes()
     assert str(nonobench.check(picture, certificate.encode())) == "certificate accepted\n"
     assert "certificate_text" not in row_of(client, "/prove", puzzle="given.ppm")
 
@@ -146,10 +136,7 @@ def test_what_is_no_puzzle_has_a_row_too(client):
 
 def test_requests_without_a_row(client, library):
     assert asked(client, "/assess") == (400, {"error": "the form has no puzzle"})
-    assert asked(client, "/assess", puzzle="") == (
-        400,
-        {"error": "the form has no puzzle"},
-    )
+    assert asked(client, "/assess", puzzle="") == (400, {"error": "the form has no puzzle"})
     status, answer = asked(client, "/assess", puzzle="heart.ppm", cert="given.ppm.cert")
     assert (status, "no field 'cert'" in answer["error"]) == (400, True)
     for path, method, status in (("/assess", "get", 405), ("/", "get", 404)):

@@ -36,11 +36,7 @@ class Reading(Case):
     def shown(self, text):
         """Picture, palette and what tells the background."""
         row = row_of(text)
-        return row.get("error") or (
-            row["picture"],
-            row["palette"],
-            row["background_from"],
-        )
+        return row.get("error") or (row["picture"], row["palette"], row["background_from"])
 
     def test_goals(self):
         wanted = ("a./.b", ["ffffff", "000000", "ff0000"], "XML")
@@ -74,12 +70,7 @@ class Reading(Case):
         # Two that are declared alike stay two, as near as they can be.
         colours = "".join(
             f'<color name="{name}" char="{name}">{triple}</color>'
-            for name, triple in (
-                ("a", "100000"),
-                ("b", "100001"),
-                ("c", "100000"),
-                ("d", "100000"),
-            )
+            for name, triple in (("a", "100000"), ("b", "100001"), ("c", "100000"), ("d", "100000"))
         )
         text = f"<puzzle>{colours}<solution><image>|abcd|</image></solution></puzzle>"
         self.assertEqual(self.shown(text)[1], ["ffffff", "100000", "100001", "100002", "100003"])
@@ -95,8 +86,7 @@ class Reading(Case):
         white = 'backgroundcolor="black" defaultcolor="white"'
         self.assertEqual(self.shown(f"<puzzle {white}>{clues}</puzzle>")[1], ["000000", "ffffff"])
         two = clues.replace(
-            "<count>1</count></line></clues>",
-            '<count color="red">1</count></line></clues>',
+            "<count>1</count></line></clues>", '<count color="red">1</count></line></clues>'
         )
         self.assertRegex(self.shown(f"<puzzle>{two}</puzzle>"), "several colours and no solution")
         given = f"<puzzle>{clues}{SAVED.format('givens', '?')}</puzzle>"
@@ -139,39 +129,24 @@ class Reading(Case):
             for axis in ("rows", "columns")
         )
         for text, why in (
-            (
-                webpbn(UNIQUE, more=CLUE),
-                "the clues of the rows are not those of the solution",
-            ),
+            (webpbn(UNIQUE, more=CLUE), "the clues of the rows are not those of the solution"),
             (webpbn(UNIQUE, kind="triddler"), "of the type triddler"),
-            (
-                webpbn(UNIQUE).replace("f00", "red"),
-                "not three or six hexadecimal digits",
-            ),
+            (webpbn(UNIQUE).replace("f00", "red"), "not three or six hexadecimal digits"),
             (webpbn(UNIQUE).replace("|X.|", "|X?|"), "'\\?', which is not a colour"),
             (webpbn(UNIQUE).replace("|X.|", "|X.."), "is not between bars"),
             (webpbn(UNIQUE).replace("|X.|", "|\n.|"), "is not between bars"),
             (webpbn(UNIQUE).replace("|X.|", "|X|"), "several lengths"),
             (webpbn(["." * 121]), "larger than 120 by 120"),
-            (
-                webpbn(UNIQUE).replace('<puzzle type="grid"', blue),
-                "background of the puzzle",
-            ),
+            (webpbn(UNIQUE).replace('<puzzle type="grid"', blue), "background of the puzzle"),
             (
                 webpbn(UNIQUE).replace("</color>", two),
                 "two colours of the puzzle have the sign 'r'",
             ),
             ("<puzzle/>", "neither a solution nor all clues"),
             (f"{same}{clues}</puzzle>", "clues in the colour of its background"),
-            (
-                f'<puzzle defaultcolor="ink">{clues}</puzzle>',
-                "in a colour that it does not have",
-            ),
+            (f'<puzzle defaultcolor="ink">{clues}</puzzle>', "in a colour that it does not have"),
             (webpbn(UNIQUE, more=OTHER_GOAL), SEVERAL),
-            (
-                webpbn(UNIQUE).replace('"goal"', '"solution"').replace("</puzzle>", second),
-                SEVERAL,
-            ),
+            (webpbn(UNIQUE).replace('"goal"', '"solution"').replace("</puzzle>", second), SEVERAL),
             (
                 webpbn(UNIQUE).replace('char="r"', 'char="?"').replace("r|", "?|"),
                 "has the sign '\\?', which stands for a cell of any colour",
@@ -185,10 +160,7 @@ class Reading(Case):
                 webpbn(UNIQUE).replace("<image>", "<image>|.X||r.|</image><image>"),
                 "the puzzle has the image of a solution twice",
             ),
-            (
-                webpbn(UNIQUE, more=OWN + CLUE),
-                "the puzzle has the clues of the rows twice",
-            ),
+            (webpbn(UNIQUE, more=OWN + CLUE), "the puzzle has the clues of the rows twice"),
             (
                 webpbn(UNIQUE, more=SAVED.format("givens", "?") * 2),
                 "the puzzle has its givens twice",
@@ -215,18 +187,12 @@ class Texts(Case):
             (f"<puzzleset>{webpbn(UNIQUE)}</puzzleset>", ""),
             ("<html/>", "the XML has no puzzle"),
             ("<svg/>", "this is SVG: convert it to PNG"),
-            (
-                "<svg xmlns='http://www.w3.org/2000/svg'/>",
-                "this is SVG: convert it to PNG",
-            ),
+            ("<svg xmlns='http://www.w3.org/2000/svg'/>", "this is SVG: convert it to PNG"),
             ("<puzzle>", "the XML cannot be read"),
             (webpbn(UNIQUE).encode("utf-16"), "it is UTF-16: save it as UTF-8"),
             (webpbn(UNIQUE, "\xe9").encode("latin-1"), "the XML is not UTF-8"),
             (f'<!DOCTYPE a [<!ENTITY a "ha">{laughs}]>' + webpbn(UNIQUE, "&a9;"), own),
-            (
-                '<!DOCTYPE a [<!ENTITY a SYSTEM "file:///etc/passwd">]>' + webpbn(UNIQUE, "&a;"),
-                own,
-            ),
+            ('<!DOCTYPE a [<!ENTITY a SYSTEM "file:///etc/passwd">]>' + webpbn(UNIQUE, "&a;"), own),
             ('<!DOCTYPE a [<!ATTLIST a b CDATA "c">]>' + webpbn(UNIQUE), own),
             (
                 f'<!DOCTYPE a SYSTEM "b>{webpbn(AMBIGUOUS, kind="").replace(chr(34), chr(39))}">',
@@ -272,8 +238,7 @@ class Texts(Case):
             mark = row_of(text.encode("utf-8-sig"), name)["error"]
             self.assertEqual(mark, "it begins with a byte order mark: save it without")
             self.assertEqual(
-                row_of(text.encode("utf-16"), name)["error"],
-                "it is UTF-16: save it as UTF-8",
+                row_of(text.encode("utf-16"), name)["error"], "it is UTF-16: save it as UTF-8"
             )
 
     def test_non(self):

@@ -19,11 +19,7 @@ class NonobenchError(ValueError):
     """
 
     def __init__(
-        self,
-        name: str,
-        text: str,
-        byte: Optional[int] = None,
-        line: Optional[int] = None,
+        self, name: str, text: str, byte: Optional[int] = None, line: Optional[int] = None
     ) -> None:
         super().__init__(name, text, byte, line)
         self.name = name

@@ -157,10 +157,7 @@ class Questions:
         return clues_of(self._say(picture, background, b"clues\n")[-1].decode("ascii"))
 
     def verdict(
-        self,
-        picture: Bytes,
-        allowance: Optional[int] = None,
-        background: Optional[Colour] = None,
+        self, picture: Bytes, allowance: Optional[int] = None, background: Optional[Colour] = None
     ) -> Verdict:
         """Whether another picture has the clues of this one.
 
@@ -190,10 +187,7 @@ class Questions:
         return None if text == b"ambiguous\n" else text
 
     def audit(
-        self,
-        picture: Bytes,
-        allowance: Optional[int] = None,
-        background: Optional[Colour] = None,
+        self, picture: Bytes, allowance: Optional[int] = None, background: Optional[Colour] = None
     ) -> Audit:
         """Verdict and certificate of a picture that is opened once. There is a certificate if the
         ruling is UNIQUE.
@@ -261,8 +255,7 @@ class Questions:
             raise MemoryError("nonobench: memory")
         if status != DONE:
             raise error_of(
-                texts[-1].decode("ascii"),
-                rest.partition(b"\n")[2] if kind == ASSESS else rest,
+                texts[-1].decode("ascii"), rest.partition(b"\n")[2] if kind == ASSESS else rest
             )
         return texts
 
@@ -377,8 +370,7 @@ def triple_of(colour: Colour, most: int = MOST_SAMPLE, name: str = "background")
     """A colour as three numbers from 0 to another one."""
     with contextlib.suppress(TypeError, ValueError):
         red, green, blue = map(
-            operator.index,
-            () if isinstance(colour, (bytes, bytearray, memoryview)) else colour,
+            operator.index, () if isinstance(colour, (bytes, bytearray, memoryview)) else colour
         )
         if 0 <= min(red, green, blue) <= max(red, green, blue) <= most:
             return red, green, blue

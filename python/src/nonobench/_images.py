@@ -14,15 +14,7 @@ import zlib
 from typing import Iterator, NamedTuple, NoReturn, Optional
 
 from ._answers import ImageError
-from ._calls import (
-    MOST_CELLS,
-    MOST_SAMPLE,
-    Bytes,
-    Colour,
-    bytes_of,
-    picture_of,
-    triple_of,
-)
+from ._calls import MOST_CELLS, MOST_SAMPLE, Bytes, Colour, bytes_of, picture_of, triple_of
 from ._profiles import is_srgb
 
 WHITE: Colour = (255, 255, 255)
@@ -130,8 +122,7 @@ def pixels_of(data: bytes) -> Pixels:
     else:
         kind = kind_of(data)
         raise ImageError(
-            "not read",
-            f"this is {kind or 'no image'}: convert it to PNG: nonobench.html opens it",
+            "not read", f"this is {kind or 'no image'}: convert it to PNG: nonobench.html opens it"
         )
     try:
         return read(data)

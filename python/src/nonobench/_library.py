@@ -35,8 +35,7 @@ def _path() -> str:
     checkout = os.path.dirname(os.path.dirname(os.path.dirname(FOLDER)))
     return next(
         filter(
-            os.path.isfile,
-            (os.path.join(FOLDER, NAME), os.path.join(checkout, "c", "out", NAME)),
+            os.path.isfile, (os.path.join(FOLDER, NAME), os.path.join(checkout, "c", "out", NAME))
         ),
         NAME,
     )
@@ -60,10 +59,7 @@ def _kinds() -> dict[str, tuple[Any, list[Any]]]:
         "close": (number, [cell, number]),
         "check": (number, [cell, *bytes_of, *bytes_of, *bytes_of, *bytes_of]),
         "check_any_given": (number, [cell, *bytes_of, *bytes_of, *bytes_of]),
-        "prove": (
-            number,
-            [cell, *bytes_of, *bytes_of, *bytes_of, ctypes.c_bool, number],
-        ),
+        "prove": (number, [cell, *bytes_of, *bytes_of, *bytes_of, ctypes.c_bool, number]),
         "assess": (
             number,
             [
@@ -143,11 +139,7 @@ class Desk:
         _calls.nonobench_end(self._cell)
 
     def check(
-        self,
-        picture: bytes,
-        certificate: bytes,
-        background: bytes,
-        published: bytes | None,
+        self, picture: bytes, certificate: bytes, background: bytes, published: bytes | None
     ) -> int:
         """Checks a certificate of a picture by the file of the givens that are published, or (None)
         one with any givens, and answers the status."""
@@ -160,12 +152,7 @@ class Desk:
         return int(call(self._at, *_lent(*files)))
 
     def prove(
-        self,
-        picture: bytes,
-        background: bytes,
-        published: bytes,
-        complete: bool,
-        format: int,
+        self, picture: bytes, background: bytes, published: bytes, complete: bool, format: int
     ) -> int:
         """Makes a certificate of a picture with the givens of a file, and answers the status."""
         files = _lent(picture, published, background)
@@ -205,14 +192,7 @@ class Desk:
         """Opens a bench on a puzzle: the status and the handle."""
         handle = ctypes.c_uint32()
         status = _calls.nonobench_open(
-            self._at,
-            puzzle,
-            len(puzzle),
-            non,
-            background,
-            len(background),
-            1,
-            ctypes.byref(handle),
+            self._at, puzzle, len(puzzle), non, background, len(background), 1, ctypes.byref(handle)
         )
         return status, handle.value
 

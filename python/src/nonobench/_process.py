@@ -181,10 +181,7 @@ class Child:
             if len(self._come) < end:
                 break
             found.append(
-                (
-                    number,
-                    [bytes(self._come[at : at + size]) for at, size in zip(places, sizes)],
-                )
+                (number, [bytes(self._come[at : at + size]) for at, size in zip(places, sizes)])
             )
             del self._come[:end]
         return found

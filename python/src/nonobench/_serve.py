@@ -139,8 +139,7 @@ def _allow(processor: int) -> None:
         hard = resource.getrlimit(resource.RLIMIT_CPU)[1]
         most = math.ceil(spent) + processor
         resource.setrlimit(
-            resource.RLIMIT_CPU,
-            (most if hard == resource.RLIM_INFINITY else min(most, hard), hard),
+            resource.RLIMIT_CPU, (most if hard == resource.RLIM_INFINITY else min(most, hard), hard)
         )
 
 

@@ -26,10 +26,7 @@ _GRACE = 2
 _MOST_ALARM = 2**31 - 1
 _LONGEST = 3600.0  # seconds that the system is asked to wait
 # Why a worker has no answer, if that is by the bounds that it was given.
-OVER_PROCESSOR, OVER_MEMORY = (
-    "no answer within its processor time",
-    "not within its memory",
-)
+OVER_PROCESSOR, OVER_MEMORY = "no answer within its processor time", "not within its memory"
 _NO_PYTHON = "a Worker needs a Python in sys.executable, and not {!r}"
 
 
@@ -50,10 +47,7 @@ class Worker(Questions):
     """
 
     def __init__(
-        self,
-        seconds: float = 10.0,
-        memory: int = 1 << 30,
-        processor: Optional[int] = None,
+        self, seconds: float = 10.0, memory: int = 1 << 30, processor: Optional[int] = None
     ) -> None:
         if not isinstance(seconds, (int, float)):
             raise TypeError(f"seconds must be a number, not {type(seconds).__name__}")

@@ -97,10 +97,7 @@ def _refuse(parser: argparse.ArgumentParser, arguments: Arguments) -> None:
         _refuse_paths_elsewhere(parser, arguments, path)
     if arguments.is_resumed and not (arguments.sqlite or arguments.jsonl not in (None, "-")):
         parser.error("--resume goes with --jsonl FILE or --sqlite FILE")
-    if [arguments.jsonl, arguments.csv].count("-") > 1 or "-" in (
-        arguments.html,
-        arguments.sqlite,
-    ):
+    if [arguments.jsonl, arguments.csv].count("-") > 1 or "-" in (arguments.html, arguments.sqlite):
         parser.error("standard output has room for one: --jsonl - or --csv -")
     if arguments.options.is_certified and (arguments.certify or arguments.ppm):
         parser.error("--certified makes no certificates")
@@ -211,51 +208,24 @@ def _add_inputs(group: argparse._ArgumentGroup) -> None:
 
 def _add_outputs(group: argparse._ArgumentGroup) -> None:
     add = group.add_argument
-    add(
-        "--jsonl",
-        metavar="FILE",
-        help="a line of JSON for each puzzle; - is standard output",
-    )
+    add("--jsonl", metavar="FILE", help="a line of JSON for each puzzle; - is standard output")
     add("--csv", metavar="FILE", help="for spreadsheets; - is standard output")
-    add(
-        "--html",
-        metavar="FILE",
-        help="a report to look at, in one file that needs no network",
-    )
-    add(
-        "--title",
-        metavar="TEXT",
-        type=_title,
-        default="Puzzles",
-        help="title of the report",
-    )
-    add(
-        "--sqlite",
-        metavar="FILE",
-        help="a database with a table that has a row for each file",
-    )
+    add("--html", metavar="FILE", help="a report to look at, in one file that needs no network")
+    add("--title", metavar="TEXT", type=_title, default="Puzzles", help="title of the report")
+    add("--sqlite", metavar="FILE", help="a database with a table that has a row for each file")
     add(
         "--resume",
         action="store_true",
         dest="is_resumed",
         help="keep the rows of --jsonl or --sqlite whose puzzles have not changed",
     )
-    add(
-        "--certify",
-        metavar="DIR",
-        help="write x.png.cert for each puzzle with one solution",
-    )
+    add("--certify", metavar="DIR", help="write x.png.cert for each puzzle with one solution")
     add(
         "--ppm",
         metavar="DIR",
         help="write x.png.ppm for each, with its certificate, givens and background",
     )
-    add(
-        "--quiet",
-        action="store_true",
-        dest="is_quiet",
-        help="print neither table nor progress",
-    )
+    add("--quiet", action="store_true", dest="is_quiet", help="print neither table nor progress")
 
 
 def _add_bounds(group: argparse._ArgumentGroup) -> None:

@@ -23,11 +23,7 @@ TOGETHER = 8  # puzzles that go together, and whose rows are written together
 LEAST_AHEAD = 8  # of these on their way, before what has come is taken
 MOST_AHEAD = 4096  # puzzles behind one that takes long
 MOST_BYTES = 32 << 20  # of questions that are on their way
-_BOUNDS = (
-    "",
-    OVER_PROCESSOR,
-    OVER_MEMORY,
-)  # why an answer lasts: it is one, or the bounds say so
+_BOUNDS = ("", OVER_PROCESSOR, OVER_MEMORY)  # why an answer lasts: it is one, or the bounds say so
 
 
 class Judge(Worker):
@@ -77,12 +73,7 @@ class Judge(Worker):
 def _answer_of(question: Question, text: tuple[bytes, str], options: Options) -> Answer:
     """The answer to a question, or why there is none: of bounds, or of something else."""
     said, why = text
-    row: Row = {
-        "file": question.name,
-        "verdict": "undecided",
-        "fit": False,
-        "notes": [why],
-    }
+    row: Row = {"file": question.name, "verdict": "undecided", "fit": False, "notes": [why]}
     row = json.loads(said) if said else {**row, "limit": options.limit()}
     row["tool"], row["digest"] = _tool(), digest_of(question.data)
     return Answer(row, {}, why in _BOUNDS and "missing" not in row)
@@ -107,9 +98,7 @@ _kept = threading.local()
 
 
 def judge(
-    questions: Sequence[Question],
-    options: Options = Options(),
-    asked_by: Optional[str] = None,
+    questions: Sequence[Question], options: Options = Options(), asked_by: Optional[str] = None
 ) -> list[Answer]:
     """The answers to some questions, by the process that this thread keeps. `asked_by` is the
     version of who asks: another one has other answers."""

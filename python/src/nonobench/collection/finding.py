@@ -135,12 +135,7 @@ class Search:
             yield self._found(name, name, believed, lying, meant)
 
     def _found(
-        self,
-        name: str,
-        path: str,
-        believed: dict[str, str],
-        lying: dict[str, str],
-        meant: Meant,
+        self, name: str, path: str, believed: dict[str, str], lying: dict[str, str], meant: Meant
     ) -> Found:
         """A puzzle, with what belongs to it: this is taken out of what is believed."""
         belonging = {
@@ -176,11 +171,7 @@ def _of_none(left: dict[str, str], puzzles: list[str]) -> Iterator[Found]:
         stem, ending = os.path.splitext(name)
         meant = next((one for one in puzzles if os.path.splitext(one)[0] == stem), "PUZZLE.png")
         called = os.path.basename(meant) + ending
-        yield Found(
-            name,
-            path,
-            why=f"it is of no puzzle: the {ENDINGS[ending]} is called {called}",
-        )
+        yield Found(name, path, why=f"it is of no puzzle: the {ENDINGS[ending]} is called {called}")
 
 
 def question_of(found: Found) -> Question:

@@ -55,24 +55,12 @@ def parts_of(question: Question, options: Options) -> list[bytes]:
     background = None if question.background is None else question.background.decode("latin-1")
     claimed = None if question.claimed is None else question.claimed.decode("latin-1")
     head = [question.name, background, question.ignored, claimed, is_there, options]
-    return [
-        json.dumps(head).encode("ascii"),
-        question.data,
-        question[2] or b"",
-        question[3] or b"",
-    ]
+    return [json.dumps(head).encode("ascii"), question.data, question[2] or b"", question[3] or b""]
 
 
 def _question_of(parts: tuple[bytes, ...]) -> tuple[Question, Options]:
     head, data, certificate, givens = parts
-    (
-        name,
-        background,
-        ignored,
-        claimed,
-        (has_certificate, has_givens),
-        options,
-    ) = json.loads(head)
+    name, background, ignored, claimed, (has_certificate, has_givens), options = json.loads(head)
     question = Question(
         name,
         data,
@@ -160,12 +148,7 @@ def _judged(question: Question, options: Options) -> Row:
 
 def _figures(said: Assessment, flaws: list[str]) -> Row:
     """What a row has of an assessment."""
-    row: Row = {
-        "rows": said.rows,
-        "columns": said.columns,
-        "open": said.open,
-        **graded(said),
-    }
+    row: Row = {"rows": said.rows, "columns": said.columns, "open": said.open, **graded(said)}
     if flaws:
         row["flaws"] = flaws
     return row
@@ -203,10 +186,7 @@ def _by_certificate(picture: Picture, certificate: bytes) -> tuple[Optional[Asse
         }
     except CertificateError as error:
         hint = hint_of(error, certificate)
-        return None, {
-            "accepted": False,
-            "why": f"{error} ({hint})" if hint else str(error),
-        }
+        return None, {"accepted": False, "why": f"{error} ({hint})" if hint else str(error)}
     givens = [list(given) for given in givens_of(certificate)]
     return said, {"accepted": True, "givens": givens} if givens else {"accepted": True}
 

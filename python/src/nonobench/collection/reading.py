@@ -78,10 +78,7 @@ def need_claims(picture: Picture) -> None:
     judged = picture.background or white
     for claim in picture.claims:
         named = colour_word(claim or white).decode("ascii")
-        need(
-            (claim or white) == judged,
-            f"its background {named} is not believed: name it",
-        )
+        need((claim or white) == judged, f"its background {named} is not believed: name it")
 
 
 def puzzles_of(data: bytes, background: Optional[Colour], asked: Questions) -> list[Puzzle]:
@@ -168,14 +165,8 @@ def _read_image(data: bytes, word: str) -> Picture:
         if word == _AUTO and pixels.is_png:
             background, why = _images.auto_background(pixels)
         else:
-            background, why = (
-                named or (pixels.maxval,) * 3,
-                "named" if word != _AUTO else _WHITE,
-            )
-        need(
-            max(background) <= pixels.maxval,
-            "its background is above the picture's samples",
-        )
+            background, why = (named or (pixels.maxval,) * 3, "named" if word != _AUTO else _WHITE)
+        need(max(background) <= pixels.maxval, "its background is above the picture's samples")
         few = len({background, *pixels.cells} - {None}) <= MOST_COLOURS
         need(few, f"more than {MOST_COLOURS} colours with the background")
         return Picture(pixels.picture(background), background, why)
@@ -190,10 +181,7 @@ def _picture_of_xml(
     stranger's givens count for nothing, and his background is not believed."""
     is_named = question.background is not None
     if drawn.ink is not None:
-        need(
-            not is_named and not question.givens,
-            "it has clues only: no background or givens",
-        )
+        need(not is_named and not question.givens, "it has clues only: no background or givens")
         return Picture(drawn.text, drawn.background, "XML", b"", drawn.title, True, drawn.ink)
     if not is_untrusted and not is_named:
         return Picture(drawn.text, drawn.background, "XML", drawn.givens, drawn.title)

@@ -146,11 +146,7 @@ def _yes(is_so: bool) -> str:
 def words_of(row: Row) -> list[str]:
     """All that is said of a row in words."""
     words = certificate_words(row)
-    found = [
-        row.get("error", ""),
-        f"certificate {words}" if words else "",
-        *flaw_words(row),
-    ]
+    found = [row.get("error", ""), f"certificate {words}" if words else "", *flaw_words(row)]
     found += notes_of(row)
     return [printable(word) for word in found if word]
 

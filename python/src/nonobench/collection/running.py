@@ -17,37 +17,17 @@ from .. import _loading
 from .._answers import UnreadableError
 from .._library import version
 from . import webpbn
-from .arguments import (
-    Arguments,
-    arguments_of,
-    fail,
-    refused_elsewhere,
-    unpack_arguments,
-)
+from .arguments import Arguments, arguments_of, fail, refused_elsewhere, unpack_arguments
 from .asking import Entry, Turns, arrivals, digest_of, key_of
 from .finding import Found, Search, bytes_of, question_of, walk
-from .outputs import (
-    Database,
-    Lines,
-    Printed,
-    Sink,
-    Spreadsheet,
-    Table,
-    lock,
-    write_file,
-)
+from .outputs import Database, Lines, Printed, Sink, Spreadsheet, Table, lock, write_file
 from .progress import Progress
 from .puzzles import Answer, Row
 from .rows import printable
 from .tally import FAILED, Tally
 
 
-PPM_ENDINGS = [
-    ".ppm",
-    ".ppm.cert",
-    ".ppm.givens",
-    ".ppm.background",
-]  # of what --ppm writes
+PPM_ENDINGS = [".ppm", ".ppm.cert", ".ppm.givens", ".ppm.background"]  # of what --ppm writes
 
 
 class Stopped(BaseException):
@@ -101,13 +81,7 @@ def unpack(name: str, folder: str) -> int:
 def _run(words: list[str]) -> int:
     try:
         return Run(arguments_of(words)).run()
-    except (
-        OSError,
-        sqlite3.Error,
-        ImportError,
-        RuntimeError,
-        UnreadableError,
-    ) as error:
+    except (OSError, sqlite3.Error, ImportError, RuntimeError, UnreadableError) as error:
         print(f"nonobench-audit: {_words_of(error)}", file=sys.stderr)
         _leave(FAILED)
 
@@ -238,10 +212,7 @@ class Run:
                 question = question_of(found)
             except UnreadableError as error:
                 said: Row = {"file": found.name, "verdict": "error", "fit": False}
-                yield Entry(
-                    None,
-                    {**said, "error": str(error), "tool": f"nonobench {version()}"},
-                )
+                yield Entry(None, {**said, "error": str(error), "tool": f"nonobench {version()}"})
                 continue
             key = key_of(question, self._options)
             row = self._row_kept(question.name, key)

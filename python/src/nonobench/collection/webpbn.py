@@ -115,8 +115,7 @@ def puzzle_of(element: Element) -> Drawn:
     """One puzzle, by its goal, or by its clues where it has none and two colours."""
     kind = element.get("type", "grid")
     need(
-        kind == "grid",
-        f"a puzzle of the type {one_line(kind, 30)}, which has no rows and columns",
+        kind == "grid", f"a puzzle of the type {one_line(kind, 30)}, which has no rows and columns"
     )
     title = one_line(element.findtext("title") or "")
     usual = element.get("defaultcolor", "black")
@@ -149,10 +148,7 @@ def _drawn_of_clues(element: Element, clues: dict[str, Any], title: str) -> Draw
     ground = element.get("backgroundcolor", "white")
     used = {name for lines in clues.values() for line in lines or () for _, name in line}
     is_known = used | {ground} <= inks.keys()
-    need(
-        is_known,
-        "the puzzle has clues, or a background, in a colour that it does not have",
-    )
+    need(is_known, "the puzzle has clues, or a background, in a colour that it does not have")
     need(ground not in used, "the puzzle has clues in the colour of its background")
     under, ink = _apart([inks[name].triple for name in (ground, *(used or {"black"}))])
     return Drawn(text, under, b"", title, ink)
@@ -172,10 +168,7 @@ def _only(elements: list[Any], what: str) -> Any:
 
 def _inks(element: Element) -> dict[str, Ink]:
     """The declared colours by name, and white and black where they are not declared."""
-    known = {
-        "white": Ink("white", ".", WHITE, False),
-        "black": Ink("black", "X", BLACK, False),
-    }
+    known = {"white": Ink("white", ".", WHITE, False), "black": Ink("black", "X", BLACK, False)}
     colours: dict[str, Ink] = {}
     for one in element.findall("color"):
         name = one.get("name", "")
@@ -186,10 +179,7 @@ def _inks(element: Element) -> dict[str, Ink]:
         )
         sign = one.get("char", known[name].sign if name in known else None)
         colours[name] = Ink(name, sign, _triple(_text(one)), True)
-    return {
-        **colours,
-        **{name: colour for name, colour in known.items() if name not in colours},
-    }
+    return {**colours, **{name: colour for name, colour in known.items() if name not in colours}}
 
 
 def _triple(text: str) -> Colour:
@@ -222,10 +212,7 @@ def _order(inks: dict[str, Ink], ground: str, used: set[str]) -> tuple[list[Ink]
         raise UnreadableError(f"the solution has a cell {one_line(sign, 2)!r}, {why}")
     others = [by_sign[sign] for sign in sorted(used) if by_sign[sign].name != ground]
     seen = [inks[ground], *others]
-    need(
-        len(seen) <= MOST_COLOURS,
-        f"more than {MOST_COLOURS} colours with the background",
-    )
+    need(len(seen) <= MOST_COLOURS, f"more than {MOST_COLOURS} colours with the background")
     return seen, by_sign
 
 
@@ -288,10 +275,7 @@ def _clues(element: Any, axis: str, usual: str) -> Optional[list[list[tuple[int,
 
 def _length(count: Any) -> int:
     text = _text(count)
-    need(
-        re.fullmatch("[0-9]{1,6}", text.strip(SPACE)),
-        "a clue of the puzzle is not a number",
-    )
+    need(re.fullmatch("[0-9]{1,6}", text.strip(SPACE)), "a clue of the puzzle is not a number")
     return int(text)
 
 
@@ -334,8 +318,5 @@ def _non_text(clues: dict[str, Any]) -> bytes:
     need(len(names) < 2, "the puzzle has clues in several colours and no solution")
     lines = [f"width {len(columns)}", f"height {len(rows)}"]
     for axis, all_clues in (("rows", rows), ("columns", columns)):
-        lines += [
-            axis,
-            *(",".join(str(length) for length, _ in line) or "0" for line in all_clues),
-        ]
+        lines += [axis, *(",".join(str(length) for length, _ in line) or "0" for line in all_clues)]
     return ("\n".join(lines) + "\n").encode()

@@ -15,16 +15,7 @@ from ..puzzles import MissingLibraryError, Row
 from ..rows import FIGURES, FITNESS, GRADES, fitness_of, flaws_of, printable, words_of
 from ..tally import Tally
 
-SIDES = (
-    10,
-    15,
-    20,
-    25,
-    30,
-    40,
-    60,
-    120,
-)  # the longer sides that puzzles are counted by
+SIDES = (10, 15, 20, 25, 30, 40, 60, 120)  # the longer sides that puzzles are counted by
 SAME = "the same clues as another"
 _FOLDER = Path(__file__).resolve().parent
 
