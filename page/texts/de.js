@@ -995,10 +995,6 @@ export const DE =
           'export.forPlayers': 'Für Spieler',
           'export.asImage': 'Als Bild',
           'export.publish': 'Veröffentlichen',
-          'export.done': 'Fertig',
-          'export.forSites': 'Für Rätselseiten',
-          'export.forPlayers': 'Für Spieler',
-          'export.asImage': 'Als Bild',
           // ---- start
           'start.justNow': 'gerade eben',
           'start.newestFirst': 'Neueste zuerst',

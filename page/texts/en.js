@@ -941,10 +941,6 @@ export const EN = /** @type {const} */ ({
   'export.forPlayers': 'For players',
   'export.asImage': 'As an image',
   'export.publish': 'Publish',
-  'export.done': 'Done',
-  'export.forSites': 'For puzzle sites',
-  'export.forPlayers': 'For players',
-  'export.asImage': 'As an image',
   // ---- start
   'start.justNow': 'just now',
   'start.newestFirst': 'Newest first',

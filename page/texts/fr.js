@@ -1001,10 +1001,6 @@ export const FR =
           'export.forPlayers': 'Pour les joueurs',
           'export.asImage': 'En image',
           'export.publish': 'Publier',
-          'export.done': 'Terminé',
-          'export.forSites': 'Pour les sites de grilles',
-          'export.forPlayers': 'Pour les joueurs',
-          'export.asImage': 'En image',
           // ---- start
           'start.justNow': 'à l’instant',
           'start.newestFirst': 'Les plus récentes d’abord',
