@@ -53,9 +53,9 @@ enum {
   NONOBENCH_MEMORY =
       4, /* out of memory; of nonobench_say also: the lines have more than 4294963200 bytes */
   NONOBENCH_CLOSED = 5, /* no bench has the handle */
-  NONOBENCH_OPTIONS =
-      6 /* background, history, allowance or format is of another form; of the functions at
-           the end of this file, also: a null comes with a length above 0 */
+  /* background, history, allowance or format is of another form; of the functions at the end of
+     this file, also: a null comes with a length above 0 */
+  NONOBENCH_OPTIONS = 6
 };
 
 /* ---- the calls of the library */

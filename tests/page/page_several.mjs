@@ -450,7 +450,6 @@ test('a background that no cell has is a flaw, whatever tells it', { skip: needs
     for (const [files, wanted] of [
              [{'a.ppm': white, 'a.ppm.background': '9,9,9'}, []],
              [{'a.ppm': white, 'a.ppm.background': 'white'}, []],
-             [{'a.ppm': red}, ['background']],
              [
                {'a.ppm': ppmTextOf(await docOf({'a.xml': xml})), 'a.ppm.background': 'white'},
                ['background']
