@@ -1,6 +1,6 @@
 pub mod AloneLemmas
 pub mod CommandLemmas
-pub mod DefaultLemmas
 pub mod EnterLemmas
 pub mod HelpLemmas
+pub mod KnownLemmas
 pub mod WordLemmas

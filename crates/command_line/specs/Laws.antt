@@ -1,27 +1,96 @@
 -- The laws of what words ask for.
-use Rattle.std.specs.Prelude.{◌≡◌, ℕ, List, [], ◌∷◌, codes, false, true, None, Ok}
+use Rattle.std.specs.Prelude.{◌≡◌, List, [], ◌∷◌, codes, false, true, Option, None, Some, Result, Ok, Err}
+use Rattle.std.specs.Prelude.{option_map}
+use Rattle.std.specs.Borrow.{Bor}
 use Rattle.std.proofs.Common.{String, Global}
+use Rattle.clap.specs.Walk.{texts}
 use Rattle.clap.specs.Words.{Text}
+use Rattle.picture.specs.declared.rgb.Rgb.{Rgb}
+use Rattle.command_text.specs.declared.command.TheConstants.{ASSESS_SPLITS}
+use Rattle.program_options.specs.declared.assessing.AssessOptions.{AssessOptions}
+use Rattle.program_options.specs.declared.fault.ProgramFault.{ProgramFault}
+use Rattle.program_options.specs.declared.fault.ProgramFault.TheVariants.{Memory}
 use Rattle.program_options.specs.declared.options.Options.{Options}
+use Rattle.program_options.specs.declared.options.ProveOptions.{ProveOptions}
 use Rattle.command_line.specs.declared.words.Task.{Task}
 use Rattle.command_line.specs.declared.words.Task.TheVariants.{Assess, Check, Help, Prove, Work}
 use Rattle.command_line.specs.Words.{IsTaskOf, asks_alone}
 
--- ---- a session without options
+-- ---- words that name files
 
--- a P3 text, a white background, and a hundred edits that can be undone
+-- a word that does not begin with a hyphen (45)
+abbrev pub IsPlain : Text → Type 0
+IsPlain [] = Unit {0}
+IsPlain (first ∷ rest) = first ≡ 45 → ⊥
+
+-- such a task, or an error for want of memory alone
+abbrev pub IsOnly : (Task → Type 0) → Result Task ProgramFault → Type 0
+IsOnly Is (Ok task) = Is task
+IsOnly Is (Err e) = e ≡ Memory
+
+-- whatever comes of these words, it is such a task, or memory ran out
+abbrev pub AskFor : List Text → (Task → Type 0) → Type 0
+AskFor words Is = (r : Result Task ProgramFault) → IsTaskOf words r → IsOnly Is r
+
+-- the path of a file that may be named
+abbrev pub path_in : Option (Bor Text) → Option Text
+path_in path = option_map (λ path. path.now) path
+
+-- a session on this file
+abbrev pub IsWorkBy : Text → Options → Task → Type 0
+IsWorkBy path options (Work file chosen) = (file.now ≡ path) × (chosen ≡ options)
+IsWorkBy path options _ = ⊥
+
+-- a check of this certificate, with a file of the givens that are published or none
+abbrev pub IsCheckBy : Text → Text → Option Text → Option Rgb → Task → Type 0
+IsCheckBy path cert_path givens_path background (Check file cert givens chosen) =
+    (file.now ≡ path) × ((cert.now ≡ cert_path) × ((path_in givens ≡ givens_path) × (chosen ≡ background)))
+IsCheckBy path cert_path givens_path background _ = ⊥
+
+-- the making of a certificate for this file, with a file of the givens that are published or none
+abbrev pub IsProveBy : Text → Option Text → ProveOptions → Task → Type 0
+IsProveBy path givens_path options (Prove file givens chosen) =
+    (file.now ≡ path) × ((path_in givens ≡ givens_path) × (chosen ≡ options))
+IsProveBy path givens_path options _ = ⊥
+
+-- assessments of the puzzles in these files, with no file beside them
+abbrev pub IsAssessBy : List Text → AssessOptions → Task → Type 0
+IsAssessBy paths options (Assess files chosen givens cert) =
+    (texts files.items ≡ paths) × ((path_in givens ≡ None) × ((path_in cert ≡ None) × (chosen ≡ options)))
+IsAssessBy paths options _ = ⊥
+
+-- what is done where no option is given: a session on a P3 text, with a hundred edits that can be undone; a bounded
+-- search for a certificate, with several steps on a line; assessments of P3 texts, with 10,000 splits for each part;
+-- and the background is white
 abbrev pub default_options : Options
 default_options = record { non = false; background = None; history = 100 }
 
--- a session on this file with the default options
-abbrev pub IsByDefault : Text → Task → Type 0
-IsByDefault path (Work file options) = (file.now ≡ path) × (options ≡ default_options)
-IsByDefault path _ = ⊥
+abbrev pub default_search : ProveOptions
+default_search = record { background = None; single = false; complete = false }
 
--- this holds where the words are `work` and a path alone that does not begin with a hyphen (45)
-abbrev pub DefaultsAreKnown : Type 0
-DefaultsAreKnown = (first : ℕ) (rest : Text) (task : Task) → (first ≡ 45 → ⊥)
-    → IsTaskOf (codes "work" ∷ (first ∷ rest) ∷ []) (Ok task) → IsByDefault (first ∷ rest) task
+abbrev pub complete_search : ProveOptions
+complete_search = record { background = None; single = false; complete = true }
+
+abbrev pub default_assessment : AssessOptions
+default_assessment = record { non = false; background = None; allowance = Some ASSESS_SPLITS }
+
+-- What the words of each command ask for, where its files have names that do not begin with a hyphen.
+pub record WordsAreKnown : Type 0 where
+  pub work : (file : Text) → IsPlain file → AskFor (codes "work" ∷ file ∷ []) (IsWorkBy file default_options)
+  pub check : (file cert : Text) → IsPlain file → IsPlain cert
+      → AskFor (codes "check" ∷ file ∷ cert ∷ []) (IsCheckBy file cert None None)
+  pub check_with : (givens file cert : Text) → IsPlain givens → IsPlain file → IsPlain cert
+      → AskFor (codes "check" ∷ codes "--givens" ∷ givens ∷ file ∷ cert ∷ [])
+      (IsCheckBy file cert (Some givens) None)
+  pub prove : (file : Text) → IsPlain file
+      → AskFor (codes "prove" ∷ file ∷ []) (IsProveBy file None default_search)
+  pub prove_complete : (file : Text) → IsPlain file
+      → AskFor (codes "prove" ∷ codes "--complete" ∷ file ∷ []) (IsProveBy file None complete_search)
+  pub prove_with : (givens file : Text) → IsPlain givens → IsPlain file
+      → AskFor (codes "prove" ∷ codes "--givens" ∷ givens ∷ file ∷ [])
+      (IsProveBy file (Some givens) default_search)
+  pub assess : (file : Text) → IsPlain file
+      → AskFor (codes "assess" ∷ file ∷ []) (IsAssessBy (file ∷ []) default_assessment)
 
 -- ---- commands and help
 

@@ -1,11 +1,13 @@
 //! The laws of what words ask for. The functions do nothing, and their contracts are the laws.
 
-ghost use Rattle.command_line.specs.Laws.{CommandsAreKept, DefaultsAreKnown};
+ghost use Rattle.command_line.specs.Laws.{CommandsAreKept, WordsAreKnown};
 
-#[tactic(auto, using(crate::proofs::DefaultLemmas::defaults))]
-/// `work` and a path alone ask for a session on that file: a P3 text with a white background; 100 edits can be undone.
-pub fn defaults_are_known()
-    ensures { DefaultsAreKnown }
+#[tactic(auto, using(crate::proofs::KnownLemmas::known))]
+/// What `work A`, `check A B`, `check --givens G A B`, `prove A`, `prove --complete A`, `prove --givens G A` and `assess A` ask
+/// for, where A, B and G do not begin with a hyphen: the task that they name, on these files, with each other option as it is
+/// where it is not given; or memory runs out.
+pub fn words_are_known()
+    ensures { WordsAreKnown }
 {}
 
 #[tactic(auto, using(crate::proofs::HelpLemmas::kept))]
