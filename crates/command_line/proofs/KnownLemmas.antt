@@ -17,6 +17,7 @@ use Rattle.clap.specs.declared.builder.value_parser.ValueParser.TheVariants.{Nam
 use Rattle.clap.proofs.OnLiterals.{clap_on_literals}
 use Rattle.picture.specs.declared.rgb.Rgb.{Rgb}
 use Rattle.command_text.specs.declared.command.TheConstants.{ASSESS_SPLITS}
+use Rattle.program_options.specs.Background.{background_of}
 use Rattle.program_options.specs.declared.assessing.AssessOptions.{AssessOptions}
 use Rattle.program_options.specs.declared.fault.ProgramFault.{ProgramFault}
 use Rattle.program_options.specs.declared.fault.ProgramFault.TheVariants as fault
@@ -26,7 +27,7 @@ use Rattle.command_line.specs.declared.words.Task.{Task}
 use Rattle.command_line.specs.declared.words.Task.TheVariants.{Assess, Check, Prove, Work}
 use Rattle.command_line.specs.Laws.{AskFor, IsAssessBy, IsCheckBy, IsOnly, IsPlain, IsProveBy, IsWorkBy, WordsAreKnown, complete_search, default_assessment, default_options, default_search}
 use Rattle.command_line.specs.Program.{AreFormats, Formats, Takes, assess_shape, check_shape, program_app, prove_shape, top_shape, work_shape}
-use Rattle.command_line.specs.Words.{AreAssessOptions, AreOptions, AreProveOptions, Given, IsAsked, IsAssess, IsCheck, IsProve, IsTaskBy, IsWork, Spells, allowance_asked, background_asked}
+use Rattle.command_line.specs.Words.{AreAssessOptions, AreOptions, AreProveOptions, Given, IsAsked, IsAssess, IsCheck, IsProve, IsTaskBy, IsWork, Spells, allowance_asked, background_asked, background_named}
 
 no_hyphen : (first : ℕ) → (first ≡ 45 → ⊥) → (first == 45) ≡ false
 no_hyphen first n = by (first == 45) refl
@@ -154,6 +155,19 @@ check_walks file cert f c =
 
 -- ---- the walk of each command
 
+check_on_walks : (colour file cert : Text) → IsPlain colour → IsPlain file → IsPlain cert
+    → Walks check_leaf start (codes "--background" ∷ colour ∷ file ∷ cert ∷ [])
+    (holding (codes "cert") (cert ∷ []) (given_row (codes "background") (colour ∷ []) ∷ given_row (codes "file") (file ∷ []) ∷ []))
+unfolding clap_on_literals
+check_on_walks colour file cert g f c =
+    let with : List Row = given_row (codes "background") (colour ∷ []) ∷ [] in
+    let rows : List Row = given_row (codes "background") (colour ∷ []) ∷ given_row (codes "file") (file ∷ []) ∷ [] in
+    let last : Walk = mid (codes "cert") (cert ∷ []) rows 3 in
+    walks_flag check_leaf start (at (holding (codes "background") [] []) (option (codes "background")) 1) (codes "--background") (colour ∷ file ∷ cert ∷ []) last.held refl refl
+    (walks_plain check_leaf (holding (codes "background") [] []) (option (codes "background")) 1 (mid (codes "background") (colour ∷ []) [] 1) colour (file ∷ cert ∷ []) last.held g refl refl
+    (walks_plain check_leaf (holding (codes "background") (colour ∷ []) []) idle 1 (mid (codes "file") (file ∷ []) with 2) file (cert ∷ []) last.held f refl refl
+    (walks_plain check_leaf (holding (codes "file") (file ∷ []) with) idle 2 last cert [] last.held c refl refl (walks_end check_leaf last))))
+
 check_with_walks : (givens file cert : Text) → IsPlain givens → IsPlain file → IsPlain cert
     → Walks check_leaf start (codes "--givens" ∷ givens ∷ file ∷ cert ∷ [])
     (holding (codes "cert") (cert ∷ []) (given_row (codes "givens") (givens ∷ []) ∷ given_row (codes "file") (file ∷ []) ∷ []))
@@ -211,6 +225,11 @@ taken_format formats text is = ap (λ (b : Bool). or_else (or_else (or_else (con
 check_ends : (file cert : Text) → ends check_leaf (holding (codes "cert") (cert ∷ []) (given_row (codes "file") (file ∷ []) ∷ [])) ≡ []
 unfolding clap_on_literals
 check_ends file cert = refl
+
+check_on_ends : (colour file cert : Text)
+    → ends check_leaf (holding (codes "cert") (cert ∷ []) (given_row (codes "background") (colour ∷ []) ∷ given_row (codes "file") (file ∷ []) ∷ [])) ≡ []
+unfolding clap_on_literals
+check_on_ends colour file cert = refl
 
 check_with_ends : (givens file cert : Text)
     → ends check_leaf (holding (codes "cert") (cert ∷ []) (given_row (codes "givens") (givens ∷ []) ∷ given_row (codes "file") (file ∷ []) ∷ [])) ≡ []
@@ -395,6 +414,18 @@ check_only file cert givens (Ok (Check path cert_path with background)) is = (is
 check_only file cert givens (Ok task) is = absurd is
 check_only file cert givens (Err e) is = absurd (no_refusal e is)
 
+colour_is : (colour : Text) (rgb : Rgb) (background : Option Rgb) → background_of colour ≡ Some rgb → background_asked (Some colour) ≡ Ok background → background ≡ Some rgb
+colour_is colour rgb background named is = let there : background_asked (Some colour) ≡ Ok (Some rgb) = ap background_named named in cc
+
+no_mistake : (colour : Text) (rgb : Rgb) (e : ProgramFault) → background_of colour ≡ Some rgb → background_asked (Some colour) ≡ Err e → ⊥
+no_mistake colour rgb e named is = absurd (let there : background_asked (Some colour) ≡ Ok (Some rgb) = ap background_named named in cc)
+
+check_on_only : (colour file cert : Text) (rgb : Rgb) (r : Result Task ProgramFault) → background_of colour ≡ Some rgb
+    → IsCheck (record (given_check file cert None) { background = Some colour }) r → IsOnly (IsCheckBy file cert None (Some rgb)) r
+check_on_only colour file cert rgb (Ok (Check path cert_path with background)) named is = (is.0, (is.1.0, (is.1.1.0, colour_is colour rgb background named is.1.1.1)))
+check_on_only colour file cert rgb (Ok task) named is = absurd is
+check_on_only colour file cert rgb (Err e) named is = absurd (no_mistake colour rgb e named is)
+
 prove_only : (file : Text) (givens : Option Text) (r : Result Task ProgramFault) → IsProve (given_prove file givens (codes "false")) r → IsOnly (IsProveBy file givens default_search) r
 prove_only file givens (Ok (Prove path with options)) is = (is.0, (is.1.0, search_is file givens options is.1.1))
 prove_only file givens (Ok task) is = absurd is
@@ -433,6 +464,13 @@ known_check_with givens file cert g f c = ask_for (codes "check" ∷ codes "--gi
     ((asked formats (codes "check" ∷ codes "--givens" ∷ givens ∷ file ∷ cert ∷ []) check_leaf (codes "--givens" ∷ givens ∷ file ∷ cert ∷ []) _
     (enters_check_with formats (codes "--givens") givens file cert) (check_with_walks givens file cert g f c) (check_with_ends givens file cert) r h).check _ refl))
 
+known_check_on : (colour file cert : Text) (rgb : Rgb) → background_of colour ≡ Some rgb → IsPlain colour → IsPlain file → IsPlain cert
+    → AskFor (codes "check" ∷ codes "--background" ∷ colour ∷ file ∷ cert ∷ []) (IsCheckBy file cert None (Some rgb))
+known_check_on colour file cert rgb named k f c = ask_for (codes "check" ∷ codes "--background" ∷ colour ∷ file ∷ cert ∷ []) (IsCheckBy file cert None (Some rgb)) (λ formats are r h.
+    check_on_only colour file cert rgb r named
+    ((asked formats (codes "check" ∷ codes "--background" ∷ colour ∷ file ∷ cert ∷ []) check_leaf (codes "--background" ∷ colour ∷ file ∷ cert ∷ []) _
+    (enters_check_with formats (codes "--background") colour file cert) (check_on_walks colour file cert k f c) (check_on_ends colour file cert) r h).check _ refl))
+
 known_prove : (file : Text) → IsPlain file → AskFor (codes "prove" ∷ file ∷ []) (IsProveBy file None default_search)
 known_prove file f = ask_for (codes "prove" ∷ file ∷ []) (IsProveBy file None default_search) (λ formats are r h.
     let is = accepts_one (codes "1" ∷ codes "2" ∷ []) formats.1 (codes "2") are.1 refl in
@@ -463,6 +501,7 @@ pub known_words : WordsAreKnown
 known_words = record {
   work = known_work;
   check = known_check;
+  check_on = known_check_on;
   check_with = known_check_with;
   prove = known_prove;
   prove_complete = known_prove_complete;

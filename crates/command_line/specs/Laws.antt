@@ -7,6 +7,7 @@ use Rattle.clap.specs.Walk.{texts}
 use Rattle.clap.specs.Words.{Text}
 use Rattle.picture.specs.declared.rgb.Rgb.{Rgb}
 use Rattle.command_text.specs.declared.command.TheConstants.{ASSESS_SPLITS}
+use Rattle.program_options.specs.Background.{background_of}
 use Rattle.program_options.specs.declared.assessing.AssessOptions.{AssessOptions}
 use Rattle.program_options.specs.declared.fault.ProgramFault.{ProgramFault}
 use Rattle.program_options.specs.declared.fault.ProgramFault.TheVariants.{Memory}
@@ -74,11 +75,15 @@ complete_search = record { background = None; single = false; complete = true }
 abbrev pub default_assessment : AssessOptions
 default_assessment = record { non = false; background = None; allowance = Some ASSESS_SPLITS }
 
--- What the words of each command ask for, where its files have names that do not begin with a hyphen.
+-- What the words of each command ask for, where no file has a name that begins with a hyphen.
 pub record WordsAreKnown : Type 0 where
   pub work : (file : Text) → IsPlain file → AskFor (codes "work" ∷ file ∷ []) (IsWorkBy file default_options)
   pub check : (file cert : Text) → IsPlain file → IsPlain cert
       → AskFor (codes "check" ∷ file ∷ cert ∷ []) (IsCheckBy file cert None None)
+  pub check_on : (colour file cert : Text) (rgb : Rgb) → background_of colour ≡ Some rgb → IsPlain colour
+      → IsPlain file → IsPlain cert
+      → AskFor (codes "check" ∷ codes "--background" ∷ colour ∷ file ∷ cert ∷ [])
+      (IsCheckBy file cert None (Some rgb))
   pub check_with : (givens file cert : Text) → IsPlain givens → IsPlain file → IsPlain cert
       → AskFor (codes "check" ∷ codes "--givens" ∷ givens ∷ file ∷ cert ∷ [])
       (IsCheckBy file cert (Some givens) None)
