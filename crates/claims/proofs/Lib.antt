@@ -1,4 +1,5 @@
 mod AssessLemmas
+mod ByWordsLemmas
 mod FitLemmas
 mod LineLemmas
 mod OutcomeLemmas

@@ -1,5 +1,5 @@
 -- Which files a run opens, and what its status says.
-use Rattle.std.proofs.Common.{◌≡◌, ◌⊎◌, ◌∙◌, ℕ, false, List, [], ◌++◌, Option, None, Some, Result, Ok, Err, inl, inr, sym, subst, ap, take, append-nil, arith}
+use Rattle.std.proofs.Common.{◌≡◌, ◌⊎◌, ◌∙◌, ℕ, false, List, ◌++◌, Option, None, Some, Result, Ok, Err, inl, inr, sym, subst, ap, take, append-nil, arith}
 use Rattle.std.specs.Io.KnownBytes.{Appends, Keeps}
 use Rattle.picture.specs.Document.{Content}
 use Rattle.picture.specs.Rows.{Rows}

@@ -1,7 +1,6 @@
 -- Runs of the program, of which a later one checks what earlier ones wrote.
-use Rattle.std.proofs.Common.{◌≡◌, ◌∙◌, ℕ, List, [], ◌++◌, Bool, false, true, codes, Option, Some, None, Result, Ok, Err, IfErr, OnOk, inl, inr, refl, sym, subst, ap}
-use Rattle.std.specs.Prelude.{◌⊎◌, ◌<◌, length}
-use Rattle.std.specs.Borrow.{Bor}
+use Rattle.std.proofs.Common.{◌≡◌, ◌∙◌, ℕ, List, [], ◌++◌, true, codes, Option, Some, None, Result, Ok, Err, IfErr, OnOk, inl, inr, refl, sym, subst, ap}
+use Rattle.std.specs.Prelude.{◌⊎◌}
 use Rattle.std.specs.Io.KnownBytes.{Appends}
 use Rattle.picture.specs.declared.rgb.Rgb.{Rgb}
 use Rattle.edits.specs.Design.{Design}
@@ -20,7 +19,7 @@ use Rattle.live_audit.specs.Certify.{NamesMarks}
 use Rattle.session.specs.Refusal.{memory_line}
 use Rattle.session.specs.Session.{Runs}
 use Rattle.program_options.specs.declared.fault.ProgramFault.{ProgramFault}
-use Rattle.program_options.specs.declared.fault.ProgramFault.TheVariants.{Memory, Read, TooLong, Write}
+use Rattle.program_options.specs.declared.fault.ProgramFault.TheVariants.{Memory, Write}
 use Rattle.program_options.specs.declared.options.Options.{Options}
 use Rattle.program_options.specs.declared.options.ProveOptions.{ProveOptions}
 use Rattle.text_check.specs.Check.{IsLemmaProofOf, IsProofOf, accepted_text}
@@ -34,8 +33,8 @@ use Rattle.command_line.specs.declared.words.Task.TheVariants.{Assess, Check, Cl
 use Rattle.command_text.specs.Words.{Texts}
 use Rattle.program.specs.Endings.{status_after}
 use Rattle.program.specs.Files.{HasFailed, Held, Holds, IsContent, IsUnread, IsUnreadFile}
-use Rattle.program.specs.Run.{AnswersAll, IsTask}
-use Rattle.program.specs.Work.{CarriesOut, IsHalfRead, Works}
+use Rattle.program.specs.Run.{AnswersAll}
+use Rattle.program.specs.Work.{CarriesOut}
 use Rattle.program.specs.World.{IsStopped, World}
 use Rattle.published.specs.Laws.{AreAccepted, ArePublished, PairsAreAccepted as Published, background_in}
 use Rattle.published.specs.Printed.{HasWritten, OneFileIsOneDocument, StartedAreAccepted}
@@ -43,17 +42,17 @@ use Rattle.published.specs.Proofs.{AreVerified, ProofsAreVerified}
 use Rattle.claims.proofs.OutcomeLemmas.{fails}
 use Rattle.claims.specs.Line.{HasLine}
 use Rattle.claims.specs.Outcome.{Comes, IsDone, Opens}
-use Rattle.claims.specs.Runs.{Accepts, ArePrintedByRuns, AskOnly, Asked, IsCheckOn, IsCheckWith, IsHindered, IsProveOn, IsProvedByRun, IsRun, IsWorkOn}
+use Rattle.claims.specs.Runs.{Accepts, AskOnly, Asked, IsCheckOn, IsCheckWith, IsHindered, IsProveOn, IsRun, IsWorkOn}
 use Rattle.claims.specs.Runs.{PairsAreAccepted, ProofsAreAccepted, PublishedAreUnique, before_run}
 
 -- ---- the task of a run
 
-is_done : (r : Result (Unit {0}) ProgramFault) → status_after r ≡ 0 → r ≡ Ok tt
+pub is_done : (r : Result (Unit {0}) ProgramFault) → status_after r ≡ 0 → r ≡ Ok tt
 is_done (Ok it) e = refl
 is_done (Err f) e = absurd (fails f e)
 
 -- a run without an error carries out a task
-done_task : (arguments : Texts) (held : List ℕ → Held) (before after : World) (r : Result (Unit {0}) ProgramFault) (Is : Task → Type 0) → AskOnly arguments Is
+pub done_task : (arguments : Texts) (held : List ℕ → Held) (before after : World) (r : Result (Unit {0}) ProgramFault) (Is : Task → Type 0) → AskOnly arguments Is
     → AnswersAll arguments held before after r → r ≡ Ok tt → (task : Task) × (Is task × CarriesOut held before after task (Ok tt))
 done_task arguments held before after r Is only (inl short) ok = absurd (let is = short.is in cc)
 done_task arguments held before after r Is only (inr (inl (f, (asks, c)))) ok = absurd (let is = c.is in cc)
@@ -62,7 +61,7 @@ done_task arguments held before after r Is only (inr (inr (task, (asks, c)))) ok
 
 -- ---- what names hold
 
-content_is : (held : Held) (bytes file : List ℕ) → held ≡ Holds bytes → IsContent held file → file ≡ bytes
+pub content_is : (held : Held) (bytes file : List ℕ) → held ≡ Holds bytes → IsContent held file → file ≡ bytes
 content_is held bytes file is content = subst (λ (h : Held). IsContent h file) is content
 
 -- ---- a session that wrote a text
@@ -103,16 +102,16 @@ session_run a input text status path options file only holds well made run =
 
 -- ---- a run that checks
 
-unread : (bytes : List ℕ) (held : Held) (fault : ProgramFault) → held ≡ Holds bytes → IsUnreadFile held fault → IsUnread (Some bytes) fault
+pub unread : (bytes : List ℕ) (held : Held) (fault : ProgramFault) → held ≡ Holds bytes → IsUnreadFile held fault → IsUnread (Some bytes) fault
 unread bytes held fault is why = subst (λ (h : Held). IsUnreadFile h fault) is why
 
-hindered_first : (picture cert : List ℕ) (before after : World) (fault : ProgramFault) → IsUnread (Some picture) fault → HasFailed before.faults after.faults fault
+pub hindered_first : (picture cert : List ℕ) (before after : World) (fault : ProgramFault) → IsUnread (Some picture) fault → HasFailed before.faults after.faults fault
     → IsHindered picture cert before after fault
 hindered_first picture cert before after fault (inl (is, long)) cause = inr (inr (inr (is, inl long)))
 hindered_first picture cert before after fault (inr (inl is)) cause = inr (inr (inl (is, subst (HasFailed before.faults after.faults) is cause)))
 hindered_first picture cert before after fault (inr (inr is)) cause = inl is
 
-hindered_second : (picture cert : List ℕ) (before after : World) (fault : ProgramFault) → IsUnread (Some cert) fault → HasFailed before.faults after.faults fault
+pub hindered_second : (picture cert : List ℕ) (before after : World) (fault : ProgramFault) → IsUnread (Some cert) fault → HasFailed before.faults after.faults fault
     → IsHindered picture cert before after fault
 hindered_second picture cert before after fault (inl (is, long)) cause = inr (inr (inr (is, inr long)))
 hindered_second picture cert before after fault (inr (inl is)) cause = inr (inr (inl (is, subst (HasFailed before.faults after.faults) is cause)))

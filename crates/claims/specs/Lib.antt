@@ -1,4 +1,5 @@
 pub mod Assessments
+pub mod ByWords
 pub mod Line
 pub mod Outcome
 pub mod Runs

@@ -4,11 +4,13 @@ ghost use Rattle.std.specs.Prelude.{◌≡◌, [], map, string_bytes, Ok};
 ghost use Rattle.std.specs.Io.KnownBytes.{Keeps};
 ghost use Rattle.std.specs.Process.{exit_status};
 ghost use Rattle.command_line.specs.declared.words.Task.{Task};
+ghost use Rattle.claims.specs.ByWords.{AssessedByWords, CheckedAreUnique, PublishedByWords};
 ghost use Rattle.claims.specs.Outcome.{Comes};
 ghost use Rattle.claims.specs.Runs.{AssessedAreFit, PublishedAreUnique};
 ghost use Rattle.program.specs.Run.{IsTask};
 ghost use Rattle.program.specs.World.{world};
 
+use command_line::laws::words_are_known;
 use program::{Ended, Files, run};
 use published::laws::fit_puzzles_are_fit;
 use session::laws::sessions_are_true;
@@ -62,8 +64,26 @@ pub fn run_asked<F: Files, R: Read, W: Write, V: Write>(
     run(alloc, Ok(arguments), files, reader, writer, errors)
 }
 
+/// The whole program for the words `check A B`, where A and B do not begin with a hyphen. With status 0, the picture in A is the
+/// only one of its size with its clues and its colours in the givens of the certificate in B.
+pub fn run_checked<F: Files, R: Read, W: Write, V: Write>(
+    alloc: Global,
+    arguments: Vec<String>,
+    files: &mut F,
+    reader: &mut R,
+    writer: &mut W,
+    errors: &mut V,
+) -> Ended
+    ensures { CheckedAreUnique (map (λ text. string_bytes text) arguments.items)
+        (F.held files.old) (exit_status result.code) }
+{
+    words_are_known();
+    run_asked(alloc, arguments, files, reader, writer, errors)
+}
+
 /// The whole program for arguments that ask for a check with a file of givens. With status 0, the picture of the first file is the
-/// only one of its size with its clues and its colours in the cells that are published.
+/// only one of its size with its clues and its colours in the cells that are published. By the clause `words` this holds for
+/// `check --givens G A B` where A, B and G do not begin with a hyphen.
 pub fn run_published<F: Files, R: Read, W: Write, V: Write>(
     alloc: Global,
     arguments: Vec<String>,
@@ -72,14 +92,17 @@ pub fn run_published<F: Files, R: Read, W: Write, V: Write>(
     writer: &mut W,
     errors: &mut V,
 ) -> Ended
-    ensures { PublishedAreUnique (map (λ text. string_bytes text) arguments.items)
+    ensures asked { PublishedAreUnique (map (λ text. string_bytes text) arguments.items)
+        (F.held files.old) (exit_status result.code) }
+    ensures words { PublishedByWords (map (λ text. string_bytes text) arguments.items)
         (F.held files.old) (exit_status result.code) }
 {
+    words_are_known();
     run_asked(alloc, arguments, files, reader, writer, errors)
 }
 
 /// The whole program for arguments that ask for assessments: with status 0, the puzzle in each file has exactly one solution with
-/// the givens that are published, and no flaw.
+/// the givens that are published, and no flaw. By the clause `words` this holds for `assess A` where A does not begin with a hyphen.
 pub fn run_assessed<F: Files, R: Read, W: Write, V: Write>(
     alloc: Global,
     arguments: Vec<String>,
@@ -88,9 +111,12 @@ pub fn run_assessed<F: Files, R: Read, W: Write, V: Write>(
     writer: &mut W,
     errors: &mut V,
 ) -> Ended
-    ensures { AssessedAreFit (map (λ text. string_bytes text) arguments.items)
+    ensures asked { AssessedAreFit (map (λ text. string_bytes text) arguments.items)
+        (F.held files.old) (exit_status result.code) }
+    ensures words { AssessedByWords (map (λ text. string_bytes text) arguments.items)
         (F.held files.old) (exit_status result.code) }
 {
+    words_are_known();
     fit_puzzles_are_fit();
     run_asked(alloc, arguments, files, reader, writer, errors)
 }
