@@ -77,10 +77,11 @@ published_words arguments held status law general path cert_path givens_path fil
     first last well
 
 pub assessed_words : (arguments : Texts) (held : List ℕ → Held) (status : ℕ) → WordsAreKnown → AssessedAreFit arguments held status → AssessedByWords arguments held status
-assessed_words arguments held status law general path file p same first well =
-    (general (path ∷ []) None None default_assessment None None
-    (only_by _ _ arguments (IsAssessBy (path ∷ []) default_assessment) (IsAssessOn (path ∷ []) None None default_assessment) same (law.assess path p) (assess_task (path ∷ []) default_assessment))
-    refl refl well).0 file first
+assessed_words arguments held status law general path paths few p all same well =
+    general (path ∷ paths) None None default_assessment None None
+    (only_by _ _ arguments (IsAssessBy (path ∷ paths) default_assessment) (IsAssessOn (path ∷ paths) None None default_assessment) same (law.assess path paths few p all)
+    (assess_task (path ∷ paths) default_assessment))
+    refl refl well
 
 only_picture : (held : List ℕ → Held) (before after : World) (task : Task) (path cert_path file cert : List ℕ) → IsCheckOn path cert_path None task → held path ≡ Holds file
     → held cert_path ≡ Holds cert → IsDone held before after task → IsOnlyPicture file None cert

@@ -2,6 +2,7 @@
 -- arguments ask for this task and no other; that is proved, and no hypothesis.
 use Rattle.std.specs.Prelude.{◌≡◌, ◌≢◌, ◌⊎◌, ◌<◌, ℕ, List, [], ◌∷◌, codes, length, None, Some, Result, Ok}
 use Rattle.std.specs.Prelude.{IfErr, OnOk}
+use Rattle.std.specs.List.{AllByRecursion}
 use Rattle.picture.specs.declared.rgb.Rgb.{Rgb}
 use Rattle.picture.specs.Document.{Content}
 use Rattle.picture.specs.Rows.{Rows}
@@ -50,8 +51,8 @@ prove_words_complete file = codes "prove" ∷ codes "--complete" ∷ file ∷ []
 abbrev pub prove_words_with : List ℕ → List ℕ → Texts
 prove_words_with givens file = codes "prove" ∷ codes "--givens" ∷ givens ∷ file ∷ []
 
-abbrev pub assess_words : List ℕ → Texts
-assess_words file = codes "assess" ∷ file ∷ []
+abbrev pub assess_words : Texts → Texts
+assess_words files = codes "assess" ∷ files
 
 -- ---- one run
 
@@ -69,11 +70,13 @@ PublishedByWords arguments held status =
     → arguments ≡ check_words_with givens_path path cert_path → held path ≡ Holds file → held givens_path ≡ Holds givens
     → status ≡ 0 → IsOnlyPublished file None givens
 
--- with status 0, the puzzle is fit to be published without givens
+-- with status 0, the puzzle in each file is fit to be published without givens
 abbrev pub AssessedByWords : Texts → (List ℕ → Held) → ℕ → Type 0
 AssessedByWords arguments held status =
-    (path file : List ℕ) → IsPlain path → arguments ≡ assess_words path → held path ≡ Holds file → status ≡ 0
-    → IsFitText file None default_assessment
+    (path : List ℕ) (paths : Texts) → length paths < 18446744073709551615 → IsPlain path → AllByRecursion IsPlain paths
+    → arguments ≡ assess_words (path ∷ paths) → status ≡ 0
+    → AllByRecursion (λ name. (file : List ℕ) → held name ≡ Holds file → IsFitText file None default_assessment)
+    (path ∷ paths)
 
 -- ---- a complete search
 

@@ -102,7 +102,8 @@ pub fn run_published<F: Files, R: Read, W: Write, V: Write>(
 }
 
 /// The whole program for arguments that ask for assessments: with status 0, the puzzle in each file has exactly one solution with
-/// the givens that are published, and no flaw. By the clause `words` this holds for `assess A` where A does not begin with a hyphen.
+/// the givens that are published, and no flaw. By the clause `words` this holds for `assess A ..` where no word after `assess`
+/// begins with a hyphen.
 pub fn run_assessed<F: Files, R: Read, W: Write, V: Write>(
     alloc: Global,
     arguments: Vec<String>,

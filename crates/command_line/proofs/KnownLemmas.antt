@@ -1,19 +1,22 @@
 -- What the words of each command ask for, where the words that name files do not begin with a hyphen.
-use Rattle.std.proofs.Common.{◌≡◌, ◌==◌, ◌||◌, ℕ, Bool, cond, true, false, List, [], ◌∷◌, codes, map, fold, Option, None, Some, Result, Ok, Err, refl, ap, subst, sym, ◌∙◌, arith, inl, inr, eqb-true, rules, true≢false}
+use Rattle.std.proofs.Common.{◌≡◌, ◌==◌, ◌||◌, ◌<◌, ◌≤◌, ◌++◌, append_assoc, append-nil, is_some, length, nat_lt, ℕ, Bool, cond, true, false, List, [], ◌∷◌, codes, map, fold, Option, None, Some, Result, Ok, Err, refl, ap, subst, sym, ◌∙◌, arith, inl, inr, eqb-true, rules, true≢false}
 use Rattle.std.specs.Borrow.{Bor}
-use Rattle.std.specs.List.{list_any}
+use Rattle.std.specs.List.{AllByRecursion, list_any}
+use Rattle.std.proofs.lemmas.Bool.{le-ltb}
+use Rattle.clap.specs.Lexer.{usize_max}
 use Rattle.clap.specs.Values.{refused_kind, same_text}
 use Rattle.clap.specs.ValueTests.{accepts}
-use Rattle.clap.specs.Walk.{Held, Row, Rule, Step, Text, Waiting, Walk, idle, option, positional}
+use Rattle.clap.specs.Walk.{Held, Names, Row, Rule, Step, Text, Waiting, Walk, idle, option, positional}
 use Rattle.clap.specs.Walk.{after_step, finished, nothing_held, plain_word, settled, walk_from, walked, word_met}
-use Rattle.clap.specs.Simple.{Shape, built_leaf, inherited, marked_built, rows_at, with_leaf_noted}
-use Rattle.clap.specs.Kinds.{Kinds, or_else}
-use Rattle.clap.specs.Faults.{check_fault, defaults_fault, fault_of, level_fault, settle_fault, step_fault, turn_fault, walk_fault, word_fault}
+use Rattle.clap.specs.Simple.{App, Shape, built, built_leaf, entered, inherited, marked_built, names_of, rows_at, with_leaf_noted}
+use Rattle.clap.specs.Kinds.{Kinds, or_else, range_kinds, values_kinds}
+use Rattle.clap.specs.declared.error.kind.ErrorKind.TheVariants.{InvalidValue, TooFewValues, TooManyValues}
+use Rattle.clap.specs.Faults.{check_fault, defaults_fault, entered_fault, fault_of, level_fault, settle_fault, step_fault, turn_fault, walk_fault, word_fault}
 use Rattle.clap.specs.Words.{subcommand_of}
 use Rattle.clap.specs.declared.builder.value_parser.Reading.TheVariants.{AsWritten}
 use Rattle.clap.specs.declared.parser.matches.ValueSource.TheVariants.{CommandLine}
 use Rattle.clap.specs.declared.builder.value_parser.ValueParser.{ValueParser}
-use Rattle.clap.specs.declared.builder.value_parser.ValueParser.TheVariants.{Names}
+use Rattle.clap.specs.declared.builder.value_parser.ValueParser.TheVariants as vp
 use Rattle.clap.proofs.OnLiterals.{clap_on_literals}
 use Rattle.picture.specs.declared.rgb.Rgb.{Rgb}
 use Rattle.command_text.specs.declared.command.TheConstants.{ASSESS_SPLITS}
@@ -34,6 +37,13 @@ no_hyphen first n = by (first == 45) refl
   where
     by : (b : Bool) → (first == 45) ≡ b → (first == 45) ≡ false
     by true e = absurd (n (eqb-true first 45 e))
+    by false e = e
+
+not_zero : (n : ℕ) → 1 ≤ n → (n == 0) ≡ false
+not_zero n some = by (n == 0) refl
+  where
+    by : (b : Bool) → (n == 0) ≡ b → (n == 0) ≡ false
+    by true e = absurd (omega (arith, some, eqb-true n 0 e))
     by false e = e
 
 -- ---- a word that does not begin with a hyphen
@@ -111,7 +121,7 @@ accepts_names [] text = refl
 accepts_names (name ∷ names) text = ap (λ (b : Bool). same_text false name.now text || b) (accepts_names names text)
 
 accepts_one : (names : List Text) (formats : ValueParser) (text : Text) → Takes names formats → list_any (λ (name : Text). same_text false name text) names ≡ true → accepts false formats text ≡ true
-accepts_one names (Names held) text are is = accepts_names held.now text ∙ ap (λ (ns : List Text). list_any (λ (name : Text). same_text false name text) ns) are ∙ is
+accepts_one names (vp.Names held) text are is = accepts_names held.now text ∙ ap (λ (ns : List Text). list_any (λ (name : Text). same_text false name text) ns) are ∙ is
 accepts_one names formats text are is = absurd are
 
 -- ---- the commands as the parser builds them
@@ -211,10 +221,22 @@ prove_with_walks formats givens file g f =
     (walks_plain (prove_leaf formats) (holding (codes "givens") [] []) (option (codes "givens")) 1 (mid (codes "givens") (givens ∷ []) [] 1) givens (file ∷ []) last.held g refl refl
     (walks_plain (prove_leaf formats) (holding (codes "givens") (givens ∷ []) []) idle 1 last file [] last.held f refl refl (walks_end (prove_leaf formats) last)))
 
-assess_walks : (formats : Formats) (file : Text) → IsPlain file → Walks (assess_leaf formats) start (file ∷ []) (holding (codes "files") (file ∷ []) [])
-assess_walks formats file f =
-    let last : Walk = at (holding (codes "files") (file ∷ []) []) positional 1 in
-    walks_plain (assess_leaf formats) nothing_held idle 1 last file [] last.held f refl refl (walks_end (assess_leaf formats) last)
+-- a positional that takes all words
+assess_on : (formats : Formats) (seen files : List Text) (end : Held) → AllByRecursion IsPlain files → holding (codes "files") (seen ++ files) [] ≡ end
+    → Walks (assess_leaf formats) (at (holding (codes "files") seen []) positional 1) files end
+assess_on formats seen [] end all is =
+    subst (Walks (assess_leaf formats) (at (holding (codes "files") seen []) positional 1) [])
+    (ap (λ (t : List Text). holding (codes "files") t []) (sym (append-nil seen)) ∙ is) (walks_end (assess_leaf formats) (at (holding (codes "files") seen []) positional 1))
+assess_on formats seen (file ∷ files) end (plain, all) is =
+    let later : List Text = seen ++ file ∷ [] in
+    walks_plain (assess_leaf formats) (holding (codes "files") seen []) positional 1 (at (holding (codes "files") later []) positional 1) file files end plain refl refl
+    (assess_on formats later files end all (ap (λ (t : List Text). holding (codes "files") t []) (append_assoc seen (file ∷ []) files) ∙ is))
+
+assess_walks : (formats : Formats) (file : Text) (files : List Text) → IsPlain file → AllByRecursion IsPlain files
+    → Walks (assess_leaf formats) start (file ∷ files) (holding (codes "files") (file ∷ files) [])
+assess_walks formats file files f all =
+    let end : Held = holding (codes "files") (file ∷ files) [] in
+    walks_plain (assess_leaf formats) nothing_held idle 1 (at (holding (codes "files") (file ∷ []) []) positional 1) file files end f refl refl (assess_on formats (file ∷ []) files end all refl)
 
 -- ---- no error after it
 
@@ -254,9 +276,25 @@ prove_with_ends : (formats : Formats) (givens file : Text) → accepts false for
 unfolding clap_on_literals
 prove_with_ends formats givens file is = taken_format formats.1 (codes "2") is
 
-assess_ends : (formats : Formats) (file : Text) → accepts false formats.2 (codes "ppm") ≡ true → ends (assess_leaf formats) (holding (codes "files") (file ∷ []) []) ≡ []
+-- so many values
+in_range : (n : ℕ) → 1 ≤ n → n ≤ usize_max → range_kinds 1 usize_max n ≡ []
+in_range n some few =
+    let none : (n == 0) ≡ false = not_zero n some in
+    let low : nat_lt n 1 ≡ false = le-ltb n 1 some in
+    let high : nat_lt usize_max n ≡ false = le-ltb usize_max n few in
+    λ i. cond (none i) (InvalidValue ∷ []) (cond (low i) (TooFewValues ∷ []) (cond (high i) (TooManyValues ∷ []) []))
+
+any_text : (values : List Text) → values_kinds false vp.String values ≡ []
+any_text [] = refl
+any_text (value ∷ values) = any_text values
+
+assess_ends : (formats : Formats) (file : Text) (files : List Text) → length files < usize_max → accepts false formats.2 (codes "ppm") ≡ true
+    → ends (assess_leaf formats) (holding (codes "files") (file ∷ files) []) ≡ []
 unfolding clap_on_literals
-assess_ends formats file is = taken_format formats.2 (codes "ppm") is
+assess_ends formats file files few is =
+    let range : range_kinds 1 usize_max (length (file ∷ files)) ≡ [] = in_range (length (file ∷ files)) (omega arith) (omega (arith, few)) in
+    (λ i. or_else (or_else (range i) (any_text (file ∷ files) i)) (or_else (or_else (or_else (cond (accepts false formats.2 (codes "ppm")) [] (refused_kind formats.2 ∷ [])) []) []) []))
+    ∙ taken_format formats.2 (codes "ppm") is
 
 -- ---- the whole program
 
@@ -289,9 +327,37 @@ enters_prove_with : (formats : Formats) (a b c : Text) → Enters formats (codes
 unfolding clap_on_literals
 enters_prove_with formats a b c = record { fault = λ e. ap (λ (k : Kinds). or_else k []) e; rows = refl }
 
-enters_assess : (formats : Formats) (a : Text) → Enters formats (codes "assess" ∷ a ∷ []) (assess_leaf formats) (a ∷ [])
+-- where a walk has met a subcommand, all later words are its
+abbrev inside : Walk → Text → List Text → Walk
+inside w name seen = record w { stopped = Some (name, seen) }
+
+stays : (s : Shape) (names : Names) (w : Walk) (name : Text) (seen rest : List Text) → fold (walked s.rules names) (inside w name seen) rest ≡ inside w name (seen ++ rest)
+unfolding walked
+stays s names w name seen [] = ap (inside w name) (sym (append-nil seen))
+stays s names w name seen (word ∷ rest) = stays s names w name (seen ++ word ∷ []) rest ∙ ap (inside w name) (append_assoc seen (word ∷ []) rest)
+
+stays_fine : (s : Shape) (names : Names) (w : Walk) (name : Text) (seen rest : List Text) → walk_fault s names (inside w name seen) rest ≡ []
+unfolding walked walk_fault
+stays_fine s names w name seen [] = refl
+stays_fine s names w name seen (word ∷ rest) = stays_fine s names w name (seen ++ word ∷ []) rest
+
+-- what a level says by the walk at its end, and by the errors of the words
+abbrev told : App → Walk → Kinds → Kinds
+told app end words_fault =
+    let has = is_some (entered app end.stopped) in
+    or_else words_fault (or_else (entered_fault app end.stopped) (or_else (settle_fault app.top.rules app.top.args_override_self end.held)
+    (or_else (defaults_fault (settled app.top.rules end.held).rows app.top.rules) (check_fault app.top (finished app.top.rules end.held) has))))
+
+enters_assess : (formats : Formats) (words : List Text) → Enters formats (codes "assess" ∷ words) (assess_leaf formats) words
 unfolding clap_on_literals
-enters_assess formats a = record { fault = λ e. ap (λ (k : Kinds). or_else k []) e; rows = refl }
+enters_assess formats words =
+    let app : App = built (program_app formats) in
+    let goes = stays app.top (names_of app) start (codes "assess") [] words in
+    let fine = stays_fine app.top (names_of app) start (codes "assess") [] words in
+    record {
+      fault = λ e. (λ i. told app (goes i) (fine i)) ∙ ap (λ (k : Kinds). or_else k []) e;
+      rows = ap (λ (w : Walk). entered app w.stopped) goes;
+    }
 
 -- what is asked for by such words
 module _ (formats : Formats) (words : List Text) (s : Shape) (rest : List Text) (end : Held) (enters : Enters formats words s rest) (w : Walks s (walk_from nothing_held) rest end)
@@ -335,8 +401,8 @@ given_work file = record (given_file file) { format = Some (codes "ppm"); histor
 abbrev given_prove : Text → Option Text → Text → Given
 given_prove file givens complete = record (given_file file) { givens = givens; format = Some (codes "2"); complete = Some complete }
 
-abbrev given_assess : Text → Given
-given_assess file = record (given_file file) { file = None; format = Some (codes "ppm"); files = file ∷ [] }
+abbrev given_assess : List Text → Given
+given_assess files = record (given_file []) { file = None; format = Some (codes "ppm"); files = files }
 
 -- ---- the options
 
@@ -394,8 +460,8 @@ complete_is file givens options are =
     let complete : options.complete ≡ true = are.complete refl in
     λ i. record { background = background i; single = single i; complete = complete i }
 
-assessment_is : (file : Text) (options : AssessOptions) → AreAssessOptions (given_assess file) options → options ≡ default_assessment
-assessment_is file options are =
+assessment_is : (files : List Text) (options : AssessOptions) → AreAssessOptions (given_assess files) options → options ≡ default_assessment
+assessment_is files options are =
     let format : options.non ≡ false = not_true options.non (λ t. ppm_is_not_non (are.format.0 t)) in
     let background : options.background ≡ None = no_colour options.background are.background in
     let allowance : options.allowance ≡ Some ASSESS_SPLITS = the_allowance options.allowance are.allowance in
@@ -436,14 +502,14 @@ complete_only file (Ok (Prove path with options)) is = (is.0, (is.1.0, complete_
 complete_only file (Ok task) is = absurd is
 complete_only file (Err e) is = absurd (no_refusal e is)
 
-assess_only : (file : Text) (r : Result Task ProgramFault) → IsAssess (given_assess file) r → IsOnly (IsAssessBy (file ∷ []) default_assessment) r
-assess_only file (Ok (Assess files options givens cert)) is = (is.0, (is.1.1.0, (is.1.1.1.0, assessment_is file options is.1.0)))
-assess_only file (Ok task) is = absurd is
-assess_only file (Err e) (inl memory) = memory
-assess_only file (Err e) (inr (inl (inl is))) = absurd (no_refusal e is)
-assess_only file (Err e) (inr (inl (inr is))) = absurd (ppm_is_not_non is.1.0)
-assess_only file (Err e) (inr (inr (inl is))) = absurd (no_allowance e is)
-assess_only file (Err e) (inr (inr (inr is))) = absurd (true≢false (sym is.1.0))
+assess_only : (files : List Text) (r : Result Task ProgramFault) → IsAssess (given_assess files) r → IsOnly (IsAssessBy files default_assessment) r
+assess_only files (Ok (Assess paths options givens cert)) is = (is.0, (is.1.1.0, (is.1.1.1.0, assessment_is files options is.1.0)))
+assess_only files (Ok task) is = absurd is
+assess_only files (Err e) (inl memory) = memory
+assess_only files (Err e) (inr (inl (inl is))) = absurd (no_refusal e is)
+assess_only files (Err e) (inr (inl (inr is))) = absurd (ppm_is_not_non is.1.0)
+assess_only files (Err e) (inr (inr (inl is))) = absurd (no_allowance e is)
+assess_only files (Err e) (inr (inr (inr is))) = absurd (true≢false (sym is.1.0))
 
 -- ---- the laws
 
@@ -491,11 +557,13 @@ known_prove_with givens file g f = ask_for (codes "prove" ∷ codes "--givens" �
     ((asked formats (codes "prove" ∷ codes "--givens" ∷ givens ∷ file ∷ []) (prove_leaf formats) (codes "--givens" ∷ givens ∷ file ∷ []) _
     (enters_prove_with formats (codes "--givens") givens file) (prove_with_walks formats givens file g f) (prove_with_ends formats givens file is) r h).prove _ refl))
 
-known_assess : (file : Text) → IsPlain file → AskFor (codes "assess" ∷ file ∷ []) (IsAssessBy (file ∷ []) default_assessment)
-known_assess file f = ask_for (codes "assess" ∷ file ∷ []) (IsAssessBy (file ∷ []) default_assessment) (λ formats are r h.
+known_assess : (file : Text) (files : List Text) → length files < usize_max → IsPlain file → AllByRecursion IsPlain files
+    → AskFor (codes "assess" ∷ file ∷ files) (IsAssessBy (file ∷ files) default_assessment)
+known_assess file files few f all = ask_for (codes "assess" ∷ file ∷ files) (IsAssessBy (file ∷ files) default_assessment) (λ formats are r h.
     let is = accepts_one (codes "ppm" ∷ codes "non" ∷ []) formats.2 (codes "ppm") are.2 refl in
-    assess_only file r
-    ((asked formats (codes "assess" ∷ file ∷ []) (assess_leaf formats) (file ∷ []) _ (enters_assess formats file) (assess_walks formats file f) (assess_ends formats file is) r h).assess _ refl))
+    assess_only (file ∷ files) r
+    ((asked formats (codes "assess" ∷ file ∷ files) (assess_leaf formats) (file ∷ files) _ (enters_assess formats (file ∷ files)) (assess_walks formats file files f all)
+    (assess_ends formats file files few is) r h).assess _ refl))
 
 pub known_words : WordsAreKnown
 known_words = record {

@@ -1,8 +1,10 @@
 -- The laws of what words ask for.
 use Rattle.std.specs.Prelude.{◌≡◌, List, [], ◌∷◌, codes, false, true, Option, None, Some, Result, Ok, Err}
-use Rattle.std.specs.Prelude.{option_map}
+use Rattle.std.specs.Prelude.{◌<◌, length, option_map}
+use Rattle.std.specs.List.{AllByRecursion}
 use Rattle.std.specs.Borrow.{Bor}
 use Rattle.std.proofs.Common.{String, Global}
+use Rattle.clap.specs.Lexer.{usize_max}
 use Rattle.clap.specs.Walk.{texts}
 use Rattle.clap.specs.Words.{Text}
 use Rattle.picture.specs.declared.rgb.Rgb.{Rgb}
@@ -94,8 +96,9 @@ pub record WordsAreKnown : Type 0 where
   pub prove_with : (givens file : Text) → IsPlain givens → IsPlain file
       → AskFor (codes "prove" ∷ codes "--givens" ∷ givens ∷ file ∷ [])
       (IsProveBy file (Some givens) default_search)
-  pub assess : (file : Text) → IsPlain file
-      → AskFor (codes "assess" ∷ file ∷ []) (IsAssessBy (file ∷ []) default_assessment)
+  pub assess : (file : Text) (files : List Text) → length files < usize_max → IsPlain file
+      → AllByRecursion IsPlain files
+      → AskFor (codes "assess" ∷ file ∷ files) (IsAssessBy (file ∷ files) default_assessment)
 
 -- ---- commands and help
 
