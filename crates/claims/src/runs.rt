@@ -56,7 +56,8 @@ pub fn run_with<F: Files + Drop>(alloc: Global, asked: Run<F>, input: &[u8]) -> 
 
 /// Three runs: `write ppm` and `certify` as the inputs of two sessions on one P3 file, and a check. Where the check is asked of
 /// two files that hold what the sessions wrote, with the document's background, it accepts. It may not where `certify` wrote
-/// `ambiguous`, memory runs out, a read or a write fails, or one of the files is longer than 16 MiB.
+/// `ambiguous`, memory runs out, a read or a write fails, or one of the files is longer than 16 MiB. By the clause `words` this
+/// holds for `work A` twice and `check --background C P Q`, where no name begins with a hyphen and C names the background.
 pub fn run_prints_what_run_accepts<F: Files + Drop>(
     alloc: Global,
     writing: Run<F>,
@@ -93,7 +94,8 @@ pub fn run_prints_what_run_accepts<F: Files + Drop>(
 
 /// Two runs: `prove` makes a certificate for a P3 file, in any form, and ends with status 0, and `check` checks it. The second is
 /// asked of files that hold the picture and what the first wrote, with the same background. It accepts, unless memory runs out, a
-/// read or a write fails, or one of the files is longer than 16 MiB.
+/// read or a write fails, or one of the files is longer than 16 MiB. By the clause `words` this holds for `prove A`, also with
+/// `--complete`, and `check B C`, where no name begins with a hyphen.
 pub fn run_proves_what_run_accepts<F: Files + Drop>(
     alloc: Global,
     proving: Run<F>,
