@@ -113,10 +113,10 @@ test('flaws that show without a search', async () => {
   assert.deepEqual(
       checker.flaws('P3 1 1 255 0 0 0\n', {background: '255,255,255'}), ['background']
   );
-  assert.deepEqual(checker.flaws('P3 1 1 255 0 0 0\n', {background: null}), []);
+  assert.deepEqual(checker.flaws('P3 1 1 255 0 0 0\n', {background: null}), ['background']);
   // By redmean red and red with one of 255 less are 1.7 apart; a white background that no cell has
   // counts beside near white.
-  assert.deepEqual(checker.flaws('P3 2 1 255 255 0 0 254 0 0\n'), ['alike a b']);
+  assert.deepEqual(checker.flaws('P3 2 1 255 255 0 0 254 0 0\n'), ['background', 'alike a b']);
   assert.deepEqual(
       checker.flaws('P3 3 1 255 254 254 254 0 0 0 1 1 1\n', {background: '255,255,255'}),
       ['background', 'alike . a', 'alike b c']

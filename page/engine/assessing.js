@@ -23,7 +23,12 @@ export async function assessed(engine, doc) {
   const published = [...doc.givens].map(
       (index) => [Math.floor(index / doc.columns) + 1, (index % doc.columns) + 1]
   );
-  const options = {background: doc.colours[0].join(','), published, format: 'ppm'};
+  const options = {
+    background: doc.colours[0].join(','),
+    published,
+    allowance: 'off',  // the time is bounded
+    format: 'ppm'
+  };
   const found = await engine.call('assess', {puzzle: text, options});
   const own = (text) => Array.from(text, (letter) => letters[LETTERS.indexOf(letter)]);
   const flaws = found.flaws.map(

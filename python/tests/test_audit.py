@@ -731,15 +731,15 @@ class Resume(Case):
 
     def test_files_under_another_name_are_made_again(self):
         """A new puzzle in front, and all others are renamed."""
-        pictures = [p3(UNIQUE), p3(["ab", ".b"]), p3(["aa", ".b"])]
+        first, *pictures = p3([".b", "a."]), p3(UNIQUE), p3(["ab", ".b"]), p3(["aa", ".b"])
         for number, picture in enumerate(pictures):
             self.put(f"{number}.ppm", picture)
         words = ["site", "--ppm", "pairs", "--certify", "certs"]
         self.rows(*words, status=0)
-        for number, picture in enumerate([p3(["bb", "aa"]), *pictures]):
+        for number, picture in enumerate([first, *pictures]):
             self.put(f"{number}.ppm", picture)
         self.rows(*words, "--resume", status=0)
-        for number, picture in enumerate([p3(["bb", "aa"]), *pictures]):
+        for number, picture in enumerate([first, *pictures]):
             self.assertEqual((self.folder / "pairs" / f"{number}.ppm.ppm").read_bytes(), picture)
         (self.folder / "certs" / "2.ppm.cert").write_text("")
         self.marked()

@@ -5,7 +5,7 @@ from __future__ import annotations
 
 import json
 import time
-from typing import Optional
+from typing import Optional, Union
 
 from .. import _images, _serve
 from .._answers import (
@@ -127,7 +127,8 @@ def _judged(question: Question, options: Options) -> Row:
     if said is None and options.is_certified:
         raise UnreadableError(f"its certificate is refused: {row['certificate']['why']}")
     if said is None:
-        said = _assessed(picture, None, options.max_guesses)
+        bound: Union[int, str] = "off" if options.max_guesses is None else options.max_guesses
+        said = _assessed(picture, None, bound)
     reading.need_claims(picture)
     is_accepted = row.get("certificate", {"accepted": True})["accepted"]
     flaws = [str(flaw) for flaw in said.flaws]
@@ -192,7 +193,7 @@ def _by_certificate(picture: Picture, certificate: bytes) -> tuple[Optional[Asse
 
 
 def _assessed(
-    picture: Picture, certificate: Optional[bytes], allowance: Optional[int]
+    picture: Picture, certificate: Optional[bytes], allowance: Union[int, str]
 ) -> Assessment:
     background = None if picture.is_non else picture.background
     return _library.assess(
