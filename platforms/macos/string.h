@@ -7,3 +7,4 @@ size_t strlen(const char *text);
 int strcmp(const char *one, const char *other);
 int strncmp(const char *one, const char *other, size_t size);
 char *strchr(const char *text, int letter);
+size_t strspn(const char *text, const char *letters);

@@ -341,7 +341,7 @@ def test_refused_words(program, name):
 HELP = {
     'help': (['--help'], 'Commands:'),
     'help on the work': (['work', '--help'], 'Example: echo verdict | nonobench work heart.ppm'),
-    'help on the check': (['check', '--help'], 'Example: nonobench check heart.ppm heart.cert'),
+    'help on the check': (['check', '--help'], 'Example: nonobench check heart.ppm heart.ppm.cert'),
 }
 
 
