@@ -214,15 +214,14 @@ def some_givens(library, asks, count):
 
 
 class Judged(Session):
-    """A session in which, without an allowance, a listing says what is unique."""
+    """A session in which, if it sets no allowance, a listing says what is unique: no search of so
+    small a picture makes 10,000 splits."""
 
-    def verdict_on(self, givens):
-        """The verdict on the picture with other givens."""
-        return (
-            by_listing(self.document.rows)(givens)
-            if self.allowance is None
-            else super().verdict_on(givens)
-        )
+    def verdict_on(self, givens, allowance):
+        """The verdict on the picture with some givens."""
+        if self.allowance is None:
+            return by_listing(self.document.rows)(givens)
+        return super().verdict_on(givens, allowance)
 
 
 def some_samples(chance, maxval, near):
