@@ -190,7 +190,7 @@ const SAID = {
   fit: false
 };
 const ASKED =
-    'assess {"puzzle":"P3\\n2 2\\n255\\n0 0 0\\n255 0 0\\n0 0 255\\n0 0 0\\n","options":{"background":"255,255,255","published":[],"format":"ppm"}}';
+    'assess {"puzzle":"P3\\n2 2\\n255\\n0 0 0\\n255 0 0\\n0 0 255\\n0 0 0\\n","options":{"background":"255,255,255","published":[],"allowance":"off","format":"ppm"}}';
 
 test(
     'what is said of a picture without a guess and without givens is a moment of the worker',
@@ -220,7 +220,9 @@ test('else it is a job; colours are those of the document, wherever they appear'
   assert.deepEqual(other, ['bc', 'b.']);
   assert.equal(log.includes('open'), true);
   assert.ok(
-      log.at(-1).endsWith('"options":{"background":"9,9,9","published":[[2,2]],"format":"ppm"}}'),
+      log.at(-1).endsWith(
+          '"options":{"background":"9,9,9","published":[[2,2]],"allowance":"off","format":"ppm"}}'
+      ),
       log.at(-1)
   );
 });
