@@ -158,7 +158,8 @@ def symbols(archive):
 # What the C library of macOS has.
 FROM_C = set(
     'malloc realloc free memcpy memmove memset memcmp bcmp bzero __bzero memset_pattern16 strlen'
-    ' strcmp strncmp strchr strspn sprintf snprintf sscanf __stack_chk_fail __stack_chk_guard'.split()
+    ' strcmp strncmp strchr strspn sprintf snprintf sscanf __stack_chk_fail'
+    ' __stack_chk_guard'.split()
 )
 
 

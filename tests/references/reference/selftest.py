@@ -195,8 +195,8 @@ SESSIONS = (
             '|r 1 2 1 1=. stands given 2=a|r 2 2 1 1=a given 3=.|open 0|refused: UnknownWord'
             '|refused: WordCount|refused: UnknownWord|refused:'
             ' WordCount|ok|ok|ok|ok|ok|open 4|ok|undecided|size 2 2|colours 2|givens 0|open'
-            ' 4|unfit|ok|r 1 1 1 2=. stands given 1=a|c 1 1 1 2=. stands given 1=a|c 2 1 1 2=a given'
-            ' 1=.|open 0|unique|size 2 2|colours'
+            ' 4|unfit|ok|r 1 1 1 2=. stands given 1=a|c 1 1 1 2=. stands given 1=a|c 2 1 1 2=a'
+            ' given 1=.|open 0|unique|size 2 2|colours'
             ' 2|givens 1|open 0|grade easy 1 4 2 0 0|fit|ok|unique|size 2'
             ' 2|colours 2|givens 1|open 0|grade easy 1 4 2 0 0|fit'
         ),
