@@ -569,4 +569,14 @@ async function instanceOf(module) {
 }
 
 // What web/check.mjs takes over.
-export {backgroundOf, checkedOf, inputOf, instanceOf, isAnyGiven, publishedOf, refusalOf, Runs};
+export {
+  backgroundOf,
+  checkedOf,
+  inputOf,
+  instanceOf,
+  isAnyGiven,
+  own,
+  publishedOf,
+  refusalOf,
+  Runs
+};

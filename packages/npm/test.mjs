@@ -145,7 +145,7 @@ test('a certificate is made as the native program makes it, with givens too', as
                ['--givens', givens, picture],
                ['--format', '1', '--complete', '--givens', givens, picture],
                ['--givens', picture, picture]]) {
-    const {status, wrote, said} = await started(t, ['prove', ...args]).ended;
+    const {status, out: wrote, err: said} = await started(t, ['prove', ...args]).ended;
     assert.deepEqual({status, wrote, said}, done(['prove', ...args]), args.join(' '));
   }
 });

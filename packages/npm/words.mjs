@@ -53,8 +53,7 @@ const FORMATS = {
 };
 const MOST_SAMPLE = 65535;
 const BOUNDS = {
-  history: [1, 1000],
-  allow: [0, 99999]
+  history: [1, 1000]
 };  // of numbers
 
 function refuse(why) {
@@ -103,6 +102,13 @@ function backgroundOf({background, format}) {
   return background;
 }
 
+// The allowance that is asked for, where one is: a number, or no bound.
+function allowanceOf({allow}) {
+  if (allow === undefined || allow === 'off') return allow;
+  if (!/^[0-9]{1,5}$/.test(allow)) throw ended(2, 'allowance must be 0 to 99999 or off');
+  return Number(allow);
+}
+
 // What the arguments of a command ask for.
 function commandOf(command, args) {
   const {files: wanted, options} = COMMANDS[command];
@@ -119,7 +125,6 @@ function commandOf(command, args) {
   const {
     format = command === 'prove' ? '2' : 'ppm',
     history = '100',
-    allow,
     givens,
     certificate,
     complete
@@ -128,7 +133,7 @@ function commandOf(command, args) {
     format,
     history: Number(history),
     background: backgroundOf(found),
-    allowance: allow === undefined ? undefined : Number(allow)
+    allowance: allowanceOf(found)
   };
   if (command === 'assess' && files.length > 1 && (givens ?? certificate) !== undefined)
     throw ended(2, 'givens and certificate go with one file');

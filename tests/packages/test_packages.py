@@ -73,8 +73,11 @@ def prints(status, wanted, words, **more):
     assert (run.status, (run.wrote + run.said).decode().strip()) == (status, wanted), words
 
 
-# The same of a picture whose cells are all given, by hand as in tests/cases/fit.txt.
-ALL_GIVEN = 'unique\nsize 2 2\ncolours 2\ngivens 4\nopen 0\ngrade easy 0 0 0 0 0\nfit'
+# The same of a picture whose cells are all given, by hand as in tests/cases/fit.txt: one of them
+# need not be.
+ALL_GIVEN = (
+    'unique\nsize 2 2\ncolours 2\ngivens 4\nopen 0\ngrade easy 0 0 0 0 0\nflaw given 1 1\nunfit'
+)
 
 
 def try_program(words, pairs, version):
@@ -88,7 +91,11 @@ def try_program(words, pairs, version):
 
 
 def try_call(
-    words, pairs, good='certificate accepted', all_given='certificate accepted, givens 4', **more
+    words,
+    pairs,
+    good='certificate accepted',
+    all_given=(0, 'certificate accepted, givens 4'),
+    **more,
 ):
     """Tries a call on the pairs: one whose givens are all cells is refused unless they are
     published."""
@@ -96,7 +103,7 @@ def try_call(
     prints(0, good, [*words, *files['good']], **more)
     prints(1, f'refused: {why.removeprefix("nonobench: ")}', [*words, *files['bad']], **more)
     prints(1, 'refused: certificate UnpublishedGiven at line 2', [*words, *files['all']], **more)
-    prints(0, all_given, [*words, *files['all'], '1,1', '1,2', '2,1', '2,2'], **more)
+    prints(*all_given, [*words, *files['all'], '1,1', '1,2', '2,1', '2,2'], **more)
 
 
 def blocks_of(page):
@@ -354,7 +361,7 @@ def test_library_for_c(installed, pairs, version, tmp_path):
     ):
         built = clean(['cc', '-std=c11', example, *flags, '-o', tmp_path / name])
         assert built.status == 0, built
-        try_call([tmp_path / name], pairs, DIAGONAL, ALL_GIVEN)
+        try_call([tmp_path / name], pairs, DIAGONAL, (1, ALL_GIVEN))
 
 
 def test_archive_installed(made, pairs, version, tmp_path):
@@ -435,9 +442,9 @@ def test_wheel_types(made, tmp_path):
     needs('mypy')
     passes([sys.executable, '-m', 'zipfile', '-e', next(made.glob('*_x86_64.whl')), tmp_path])
     shutil.copy(TRIALS / 'ask.py', tmp_path)
-    passes(
-        ['mypy', '--strict', '--no-incremental', '--cache-dir', '/dev/null', 'ask.py'], cwd=tmp_path
-    )
+    # As of a package that is installed, only the program's own mistakes are told.
+    words = ['mypy', '--strict', '--follow-imports=silent', '--no-incremental']
+    passes([*words, '--cache-dir', '/dev/null', 'ask.py'], cwd=tmp_path)
 
 
 def test_sizes(made, installed):

@@ -140,9 +140,7 @@ def test_proved(program, text, answer, tmp_path):
     givens = ['--givens', file] if named else []
     for words in ([], ['--complete']):
         run = ended([program.path, 'prove', *words, *givens, picture])
-        if program.in_node and (words or givens):  # the program in JavaScript refuses both
-            assert (run.status, run.wrote) == (2, b''), run.said
-        elif answer == 'certificate':
+        if answer == 'certificate':
             assert (run.status, run.said) == (0, b'')
             count = f', givens {len(named.split())}' if named else ''
             answered(
