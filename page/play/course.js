@@ -46,7 +46,7 @@ const isOpen = () => $('course')?.open === true;
 // ---- what is shown
 
 const thumb = (share) => buttonOf(
-    '',
+    `course-${share}`,
     phrase('play.share', {share}),
     () => goTo(share),
     {'data-share': share, 'aria-label': phrase('play.afterShare', {share}), disabled: true}

@@ -66,7 +66,7 @@ export async function helpOnPhones({browser, url, folder}) {
   await page.tap('#menu-help [data-action="guide"]');
   await page.until(() => document.querySelector('#version'), 3000 * SLACK);
   assert.match(
-      await trial.text('#version'), /^nonobench [0-9.]+, commit [0-9a-f]{12}\. .*: git’s names/
+      await trial.text('#version'), /^nonobench [0-9.]+, commit [0-9a-f]{12}\. .*git’s names/
   );
   await page.press('Escape');
   await page.run(() => runAction('play'));

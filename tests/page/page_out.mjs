@@ -470,7 +470,7 @@ export async function pdfReadBack({browser, url, folder}) {
   await printWith(page, {'print-show': 'letters', 'print-paper': 'a5', 'print-margin': '15'});
   const [puzzle, solution, ...others] = await pdfOf(page, own, 'letters.pdf');
   assert.deepEqual([puzzle.size, solution.size, others.length], [[148, 210], [148, 210], 0]);
-  assert.match(puzzle.text, /Puzzle\n\s*6 by 3, by A Writer/);
+  assert.match(puzzle.text, /Three rows\n\s*6 by 3, by A Writer/);
   // Clues of rows from left to right, and of columns from top to bottom, as the picture has them.
   const isClue = ({text}) => /^\d+[abc]$/.test(text);
   const lines = (all, across) => Object.values(

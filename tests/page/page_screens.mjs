@@ -39,6 +39,7 @@ export async function fewMeasures({browser, url, folder}) {
           `${where}: ${JSON.stringify(found)}`
       );
     };
+    await page.until(() => document.querySelector('#examples .kept'), 8000 * SLACK);
     await check('start');
     await trial.example('balloon');
     await trial.judged();

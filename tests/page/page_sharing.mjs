@@ -461,7 +461,7 @@ const setOf = (...puzzles) => `<puzzleset>${
 
 const rowsShown = (page) => page.run(
     () => [...document.querySelectorAll('#several tbody tr')].map(
-        (row) => [...row.children].map((cell) => cell.textContent)
+        (row) => [...row.children].map((cell) => cell.textContent.trim())
     )
 );
 
