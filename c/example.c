@@ -78,6 +78,9 @@ int main(int count, char **names) {
       &found,
       &text
   );
+  /* The palette, which follows, is not printed. */
+  char *palette = strstr(said, "\ncolour ");
+  if (palette) palette[1] = 0;
   printf(status == NONOBENCH_DONE ? "%s" : "refused: %s\n", said);
   free(picture.bytes);
   free(certificate.bytes);

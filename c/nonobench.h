@@ -74,9 +74,11 @@ uint32_t nonobench_start(nonobench_desk **desk);
 /* Ends a desk with all its benches. Does nothing for a null. */
 void nonobench_end(nonobench_desk *desk);
 
-/* Opens a bench on a P3 picture, or a .non text where `non` is true. `background` is a text such as
+/* Opens a bench on a P3 picture, or a .non text if `non` is true. `background` is a text such as
  * 255,0,0, or empty for white; `history` is 1 to 1000. Stores the bench's handle, or 0 if none is
- * opened. */
+ * opened. The text is the palette: a line `colour . 255 255 255` for each colour, with its letter,
+ * and its red, green and blue on the scale of the picture, up to its maxval. The background comes
+ * first, and the others as they first appear, row by row. */
 uint32_t nonobench_open(
     nonobench_desk **desk,
     const uint8_t *file,
@@ -104,7 +106,8 @@ uint32_t nonobench_close(nonobench_desk **desk, uint32_t handle);
  * that are published, a line `given R C` each; if it is empty, none is. An accepted certificate
  * proves that no other picture has the clues and the colours in the published cells. If it names
  * another cell, the text is `certificate UnpublishedGiven at line N`; if the file of givens is
- * refused, `givens NAME at line N`. */
+ * refused, `givens NAME at line N`. Of one that is accepted the text is the line that the program
+ * prints, and then a line `given R C` for each of its givens, in its order. */
 uint32_t nonobench_check(
     nonobench_desk **desk,
     const uint8_t *picture,
@@ -130,10 +133,10 @@ uint32_t nonobench_check_any_given(
 );
 
 /* Assesses a puzzle, a P3 text or (`non`) a .non text with a goal: whether it is fit to be
- * published. The text is what `nonobench assess` prints for it, and ends with `fit` or `unfit`; or
- * why it is refused. The texts of a file of givens and of a certificate count where `has_givens`
- * and `has_certificate` say that they are passed. The allowance is a word: 0 to 99999, `off`, or
- * none, which stands for 10000. */
+ * published. The text is what `nonobench assess` prints for it, which ends with `fit` or `unfit`,
+ * and then the palette, as for nonobench_open; or why it is refused. The texts of a file of givens
+ * and of a certificate count if `has_givens` and `has_certificate` say that they are passed. The
+ * allowance is a word: 0 to 99999, `off`, or none, which stands for 10000. */
 uint32_t nonobench_assess(
     nonobench_desk **desk,
     const uint8_t *puzzle,
@@ -175,7 +178,7 @@ uint32_t nonobench_prove(
  * followed by a NUL. */
 typedef struct nonobench_text {
   char *at;
-  size_t room; /* with the NUL; 0 where `at` is null */
+  size_t room; /* with the NUL; 0 if `at` is null */
   size_t size;
 } nonobench_text;
 
@@ -205,8 +208,7 @@ typedef struct nonobench_options {
  * a given which is not published is REFUSED, with the text `certificate UnpublishedGiven at line
  * N`. If the published cells cannot be those of the picture, it is REFUSED with the text `givens
  * NAME at line N`, where N counts them from 1. `options` and `text` may be null, and then no cell
- * is published. The text is the line that the program prints, or why picture or certificate is
- * refused. */
+ * is published. The text is as for nonobench_check. */
 uint32_t nonobench_check_pair(
     const void *picture,
     size_t picture_size,
@@ -226,21 +228,23 @@ uint32_t nonobench_verify_pair(
     nonobench_text *text
 );
 
-/* Reads the places of the givens of a certificate that was accepted, or refused for one of them, as
- * many as there is room for, and answers how many there are. For other bytes the answer has no
- * meaning, but nothing outside them is read. */
+/* Reads the places of the givens from the text of a check that accepted a certificate, or from a
+ * certificate that was refused for one of them or accepted: as many as there is room for, and
+ * answers how many there are. For other bytes the answer has no meaning, but nothing outside them
+ * is read. */
 size_t nonobench_givens(const void *certificate, size_t size, nonobench_place *places, size_t room);
 
-/* The clues of a P3 picture, a line each, as the program prints them. `background` is such as
- * 255,0,0, or null for white. */
+/* The clues of a P3 picture, a line each, as the program prints them, and then its palette, as for
+ * nonobench_open. `background` is such as 255,0,0, or null for white. */
 uint32_t nonobench_clues(
     const void *picture, size_t size, const char *background, nonobench_text *text
 );
 
 /* Whether another picture has the clues of a P3 picture. `allowance`, 0 to 99999, is how many
  * splits the search of a part may make; below 0 there is no such bound, and a call may take very
- * long. The text is what a session answers to `verdict`; if the ruling is AMBIGUOUS, its rows are
- * another picture. `ruling` and `text` may be null. */
+ * long. The text is what a session answers to `verdict`, and then the palette, as for
+ * nonobench_open; if the ruling is AMBIGUOUS, the rows are another picture. `ruling` and `text` may
+ * be null. */
 uint32_t nonobench_verdict(
     const void *picture,
     size_t size,
@@ -270,11 +274,12 @@ uint32_t nonobench_certify(
 );
 
 /* A certificate of a P3 picture whose givens are exactly the published cells, by default none. It
- * is shorter than that of nonobench_certify, and there where that takes too long. The search has
- * bounds unless it is `complete`, and may take minutes; if it reaches a bound, the ruling is
- * UNDECIDED. `format` is 2, or 1 for a certificate with lemmas that is `nonolemma 1`. The text is
- * `unique`, `ambiguous` or `undecided` with a line feed, or why the picture or the published cells
- * are refused. `options`, whose `any_given` must be false, and `text` may be null. */
+ * is often shorter than that of nonobench_certify, and sometimes found when that takes too long.
+ * The search has bounds unless it is `complete`, and may take minutes; if it reaches a bound, the
+ * ruling is UNDECIDED. `format` is 2, or 1 for a certificate with lemmas that is `nonolemma 1`. The
+ * text is `unique`, `ambiguous` or `undecided` with a line feed, or why the picture or the
+ * published cells are refused. `options`, whose `any_given` must be false, and `text` may be null.
+ */
 uint32_t nonobench_prove_picture(
     const void *picture,
     size_t size,
@@ -319,7 +324,7 @@ typedef struct nonobench_assessment {
   bool is_fit;
   uint32_t rows, columns, colours, givens, open;
   nonobench_grade grade;
-  uint64_t rounds, evaluations, wait, splits, depth; /* 0 where the grade has none */
+  uint64_t rounds, evaluations, wait, splits, depth; /* 0 if the grade has none */
   bool is_blank, lacks_background;                   /* flaws */
   nonobench_place given;                             /* a flaw: a given that is not needed */
   uint32_t alike_count; /* a flaw, if above 0: pairs of colours, by their letters */
@@ -328,10 +333,11 @@ typedef struct nonobench_assessment {
 
 /* Assesses a puzzle, a P3 text or (`non`) a .non text with a goal. A certificate (not null) takes
  * the place of the search for another solution; `any_given` then publishes the givens that it names
- * (of a .non text, what is wrong with these is told as `givens`). `allowance` is how many splits
- * the search of a part may make: 0 to 99999 as a text, `off` for no bound, or null for 10000. The
- * text is what the program prints for the puzzle, or why it is refused: then all of `found` is 0,
- * but its size. `options` and `text` may be null. */
+ * (of a .non text, what is wrong with these is reported as `givens`). `allowance` is how many
+ * splits the search of a part may make: 0 to 99999 as a text, `off` for no bound, or null for
+ * 10000. The text is what the program prints for the puzzle, and then the palette, as for
+ * nonobench_open; or why it is refused: then all of `found` is 0, but its size. `options` and
+ * `text` may be null. */
 uint32_t nonobench_assess_puzzle(
     const void *puzzle,
     size_t puzzle_size,

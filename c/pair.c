@@ -38,6 +38,27 @@ static void take(nonobench_desk **desk, nonobench_text *text) {
   text->at[text->size < text->room ? text->size : text->room - 1] = 0;
 }
 
+/* The bytes of the lines of a palette at the most: sixteen such as `colour a 65535 65535 65535`,
+ * and a NUL. */
+#define MOST_PALETTE 448
+
+/* Takes the palette of a bench that was opened last. */
+static void take_palette(nonobench_desk **desk, char *palette) {
+  palette[nonobench_take(desk, (uint8_t *)palette, MOST_PALETTE - 1)] = 0;
+}
+
+/* Puts a palette below a text. */
+static void add_palette(nonobench_text *text, const char *palette) {
+  size_t size = strlen(palette);
+  if (!text) return;
+  if (text->at && text->size < text->room) {
+    size_t left = text->room - 1 - text->size, front = size < left ? size : left;
+    memcpy(text->at + text->size, palette, front);
+    text->at[text->size + front] = 0;
+  }
+  text->size += size;
+}
+
 /* Whether bytes can be handed on: the status and the text where they cannot. */
 static uint32_t look(const void *bytes, size_t size, nonobench_text *text) {
   if (!bytes && size > 0) {
@@ -93,7 +114,8 @@ static uint32_t open_one(
   return status;
 }
 
-/* Says one line, and takes the answer. Memory that is refused within a session is told as MEMORY.
+/* Says one line, and takes the answer. Memory that is refused within a session is reported as
+ * MEMORY.
  */
 static uint32_t ask(
     nonobench_desk **desk, uint32_t handle, const char *line, nonobench_text *text
@@ -182,6 +204,28 @@ static uint32_t write_givens(
   return NONOBENCH_DONE;
 }
 
+/* A call with options: a desk, and the published cells as the library takes them. */
+typedef struct {
+  nonobench_desk *desk;
+  char *givens;
+  size_t givens_size;
+} call;
+
+/* Begins a call. `end` ends it, unless the status is another than DONE. */
+static uint32_t begin(call *begun, const nonobench_options *options, nonobench_text *text) {
+  *begun = (call){NULL, NULL, 0};
+  uint32_t status = write_givens(options, &begun->givens, &begun->givens_size, text);
+  if (status != NONOBENCH_DONE) return status;
+  status = start(&begun->desk, text);
+  if (status != NONOBENCH_DONE) free(begun->givens);
+  return status;
+}
+
+static void end(call *begun) {
+  nonobench_end(begun->desk);
+  free(begun->givens);
+}
+
 uint32_t nonobench_check_pair(
     const void *picture,
     size_t picture_size,
@@ -193,33 +237,29 @@ uint32_t nonobench_check_pair(
   const nonobench_options *asked = options ? options : &NO_OPTIONS;
   const uint8_t *file = bytes_of(picture), *cert = bytes_of(certificate),
                 *word = bytes_of(asked->background);
-  size_t word_size = length_of(asked->background), size = 0;
-  char *givens = NULL;
-  nonobench_desk *desk;
+  size_t word_size = length_of(asked->background);
+  call begun;
   uint32_t status = look(picture, picture_size, text);
   if (status == NONOBENCH_DONE) status = look(certificate, certificate_size, text);
-  if (status == NONOBENCH_DONE) status = write_givens(asked, &givens, &size, text);
-  if (status == NONOBENCH_DONE) status = start(&desk, text);
-  if (status == NONOBENCH_DONE) {
-    status = asked->any_given
-                 ? nonobench_check_any_given(
-                       &desk, file, picture_size, cert, certificate_size, word, word_size
-                   )
-                 : nonobench_check(
-                       &desk,
-                       file,
-                       picture_size,
-                       cert,
-                       certificate_size,
-                       bytes_of(givens),
-                       size,
-                       word,
-                       word_size
-                   );
-    tell(&desk, status, text);
-    nonobench_end(desk);
-  }
-  free(givens);
+  if (status == NONOBENCH_DONE) status = begin(&begun, asked, text);
+  if (status != NONOBENCH_DONE) return status;
+  status = asked->any_given
+               ? nonobench_check_any_given(
+                     &begun.desk, file, picture_size, cert, certificate_size, word, word_size
+                 )
+               : nonobench_check(
+                     &begun.desk,
+                     file,
+                     picture_size,
+                     cert,
+                     certificate_size,
+                     bytes_of(begun.givens),
+                     begun.givens_size,
+                     word,
+                     word_size
+                 );
+  tell(&begun.desk, status, text);
+  end(&begun);
   return status;
 }
 
@@ -238,9 +278,12 @@ uint32_t nonobench_clues(
     const void *picture, size_t size, const char *background, nonobench_text *text
 ) {
   nonobench_desk *desk;
+  char palette[MOST_PALETTE];
   uint32_t handle, status = open_one(&desk, &handle, picture, size, background, text);
   if (status != NONOBENCH_DONE) return status;
+  take_palette(&desk, palette);
   status = ask(&desk, handle, "clues\n", text);
+  if (status == NONOBENCH_DONE) add_palette(text, palette);
   nonobench_end(desk);
   return status;
 }
@@ -261,7 +304,8 @@ static uint32_t look_bound(const char *allowance, nonobench_text *text) {
   return NONOBENCH_OPTIONS;
 }
 
-/* The verdict of a bench under an allowance: `ruling` and `text` become what is found. */
+/* The verdict of a bench that was opened last, under an allowance: `ruling` and `text` become what
+ * is found. */
 static uint32_t judge(
     nonobench_desk **desk,
     uint32_t handle,
@@ -269,9 +313,10 @@ static uint32_t judge(
     nonobench_ruling *ruling,
     nonobench_text *text
 ) {
-  char line[32], word[10] = "";
+  char line[32], word[10] = "", palette[MOST_PALETTE];
   nonobench_text own = {word, sizeof word, 0};
   uint32_t status = NONOBENCH_DONE;
+  take_palette(desk, palette);
   if (allowance >= 0) {
     snprintf(line, sizeof line, "allow %d\n", (int)allowance);
     status = ask(desk, handle, line, text);
@@ -279,6 +324,7 @@ static uint32_t judge(
   if (status == NONOBENCH_DONE) status = ask(desk, handle, "verdict\n", text);
   if (status != NONOBENCH_DONE) return status;
   take(desk, &own);
+  add_palette(text, palette);
   *ruling = word[0] == 'a'                 ? NONOBENCH_AMBIGUOUS
             : strncmp(word, "uni", 3) == 0 ? NONOBENCH_UNIQUE
                                            : NONOBENCH_UNDECIDED;
@@ -371,33 +417,29 @@ uint32_t nonobench_prove_picture(
 ) {
   static const char *const RULINGS[] = {"undecided\n", "unique\n", "ambiguous\n"};
   const nonobench_options *asked = options ? options : &NO_OPTIONS;
-  const uint8_t *word = bytes_of(asked->background);
-  size_t word_size = length_of(asked->background), published_size = 0;
-  char *published = NULL;
-  nonobench_desk *desk;
+  call begun;
   uint32_t status = look(picture, size, text);
   *found = (nonobench_audited){NONOBENCH_UNDECIDED, NULL, 0};
   if (status == NONOBENCH_DONE) status = look_proving(asked, format, text);
-  if (status == NONOBENCH_DONE) status = write_givens(asked, &published, &published_size, text);
-  if (status == NONOBENCH_DONE) status = start(&desk, text);
-  if (status == NONOBENCH_DONE) {
-    status = nonobench_prove(
-        &desk,
-        bytes_of(picture),
-        size,
-        bytes_of(published),
-        published_size,
-        word,
-        word_size,
-        complete,
-        format
-    );
-    status = keep(&desk, status, found, text);
-    nonobench_end(desk);
-    if (status == NONOBENCH_DONE) put(text, RULINGS[found->ruling]);
-  }
-  free(published);
-  if (status != NONOBENCH_DONE) found->ruling = NONOBENCH_UNDECIDED;
+  if (status == NONOBENCH_DONE) status = begin(&begun, asked, text);
+  if (status != NONOBENCH_DONE) return status;
+  status = nonobench_prove(
+      &begun.desk,
+      bytes_of(picture),
+      size,
+      bytes_of(begun.givens),
+      begun.givens_size,
+      bytes_of(asked->background),
+      length_of(asked->background),
+      complete,
+      format
+  );
+  status = keep(&begun.desk, status, found, text);
+  end(&begun);
+  if (status == NONOBENCH_DONE)
+    put(text, RULINGS[found->ruling]);
+  else
+    found->ruling = NONOBENCH_UNDECIDED;
   return status;
 }
 
@@ -501,7 +543,7 @@ static void read_assessed(const char *line, nonobench_assessment *found) {
   read_count(line, "open", &found->open);
   if (strncmp(line, "grade ", 6) == 0) read_grade(line, found);
   if (strncmp(line, "flaw ", 5) == 0) read_flaw(line, found);
-  found->is_fit = strcmp(line, "fit") == 0;
+  if (strcmp(line, "fit") == 0) found->is_fit = true;
 }
 
 /* Lets an assessment be undecided, and not fit. */
@@ -532,27 +574,82 @@ static uint32_t keep_assessed(
   return NONOBENCH_DONE;
 }
 
-/* The givens that a certificate names, whichever they are, as those that are published. Of a
- * picture it is checked first, on a desk: what is wrong with it is told as its own fault. A .non
- * text has no desk here. */
+/* What is assessed, as the library takes it. */
+typedef struct {
+  const uint8_t *puzzle, *certificate, *background, *allowance;
+  size_t puzzle_size, certificate_size, background_size, allowance_size;
+  bool non, has_certificate;
+} question;
+
+/* Whether a puzzle can have its background: DONE, or OPTIONS with its text. */
+static uint32_t look_background(const question *asked, nonobench_text *text) {
+  if (!asked->non || asked->background_size == 0) return NONOBENCH_DONE;
+  put(text, "background goes with ppm");
+  return NONOBENCH_OPTIONS;
+}
+
+/* The givens that a certificate names, whichever they are, as those that are published; `places`
+ * must be freed. Of a picture the certificate is checked first: what is wrong with it is reported
+ * as its own fault. */
 static uint32_t publish_named(
     nonobench_desk **desk,
-    const uint8_t *files[3],
-    const size_t sizes[3],
-    nonobench_options *asked,
+    const question *asked,
+    nonobench_options *options,
     nonobench_place **places,
     nonobench_text *text
 ) {
-  uint32_t status = desk ? nonobench_check_any_given(
-                               desk, files[0], sizes[0], files[1], sizes[1], files[2], sizes[2]
-                           )
-                         : NONOBENCH_DONE;
+  uint32_t status = asked->non ? NONOBENCH_DONE
+                               : nonobench_check_any_given(
+                                     desk,
+                                     asked->puzzle,
+                                     asked->puzzle_size,
+                                     asked->certificate,
+                                     asked->certificate_size,
+                                     asked->background,
+                                     asked->background_size
+                                 );
   if (status != NONOBENCH_DONE) return tell(desk, status, text);
-  asked->published_count = nonobench_givens(files[1], sizes[1], NULL, 0);
-  status = reserve((void **)places, (asked->published_count + 1) * sizeof **places, text);
-  if (status == NONOBENCH_DONE)
-    nonobench_givens(files[1], sizes[1], *places, asked->published_count);
-  asked->published = *places;
+  size_t count = nonobench_givens(asked->certificate, asked->certificate_size, NULL, 0);
+  status = reserve((void **)places, (count + 1) * sizeof **places, text);
+  if (status != NONOBENCH_DONE) return status;
+  nonobench_givens(asked->certificate, asked->certificate_size, *places, count);
+  options->published = *places;
+  options->published_count = count;
+  return status;
+}
+
+/* Assesses with the givens that options publish or, where they allow any, a certificate names. */
+static uint32_t assess(
+    nonobench_desk **desk, const question *asked, nonobench_options options, nonobench_text *text
+) {
+  nonobench_place *named = NULL;
+  char *givens = NULL;
+  size_t size = 0;
+  uint32_t status = NONOBENCH_DONE;
+  if (options.any_given && asked->has_certificate)
+    status = publish_named(desk, asked, &options, &named, text);
+  if (status == NONOBENCH_DONE) status = write_givens(&options, &givens, &size, text);
+  if (status == NONOBENCH_DONE) {
+    status = nonobench_assess(
+        desk,
+        asked->puzzle,
+        asked->puzzle_size,
+        asked->non,
+        asked->background,
+        asked->background_size,
+        true,
+        bytes_of(givens),
+        size,
+        asked->has_certificate,
+        asked->certificate,
+        asked->certificate_size,
+        asked->allowance,
+        asked->allowance_size
+    );
+    tell(desk, status, text);
+  }
+  free(givens);
+  free(named);
   return status;
 }
 
@@ -567,48 +664,28 @@ uint32_t nonobench_assess_puzzle(
     nonobench_assessment *found,
     nonobench_text *text
 ) {
-  nonobench_options asked = options ? *options : NO_OPTIONS;
-  const uint8_t *files[] = {bytes_of(puzzle), bytes_of(certificate), bytes_of(asked.background)};
-  const size_t sizes[] = {puzzle_size, certificate_size, length_of(asked.background)};
-  size_t size = 0;
-  char *givens = NULL;
-  nonobench_place *named = NULL;
+  const nonobench_options *given = options ? options : &NO_OPTIONS;
+  const question asked = {
+      .puzzle = bytes_of(puzzle),
+      .puzzle_size = puzzle_size,
+      .non = non,
+      .background = bytes_of(given->background),
+      .background_size = length_of(given->background),
+      .has_certificate = certificate != NULL,
+      .certificate = bytes_of(certificate),
+      .certificate_size = certificate_size,
+      .allowance = bytes_of(allowance),
+      .allowance_size = length_of(allowance)};
   nonobench_desk *desk;
   uint32_t status = look_bound(allowance, text);
   clear(found);
   if (status == NONOBENCH_DONE) status = look(puzzle, puzzle_size, text);
   if (status == NONOBENCH_DONE) status = look(certificate, certificate_size, text);
-  if (status == NONOBENCH_DONE && non && sizes[2] > 0) {
-    put(text, "background goes with ppm");
-    status = NONOBENCH_OPTIONS;
-  }
+  if (status == NONOBENCH_DONE) status = look_background(&asked, text);
   if (status == NONOBENCH_DONE) status = start(&desk, text);
   if (status != NONOBENCH_DONE) return status;
-  if (asked.any_given && certificate)
-    status = publish_named(non ? NULL : &desk, files, sizes, &asked, &named, text);
-  if (status == NONOBENCH_DONE) status = write_givens(&asked, &givens, &size, text);
-  if (status == NONOBENCH_DONE) {
-    status = nonobench_assess(
-        &desk,
-        files[0],
-        sizes[0],
-        non,
-        files[2],
-        sizes[2],
-        true,
-        bytes_of(givens),
-        size,
-        certificate != NULL,
-        files[1],
-        sizes[1],
-        bytes_of(allowance),
-        length_of(allowance)
-    );
-    tell(&desk, status, text);
-    if (status == NONOBENCH_DONE) status = keep_assessed(&desk, found, text);
-  }
+  status = assess(&desk, &asked, *given, text);
+  if (status == NONOBENCH_DONE) status = keep_assessed(&desk, found, text);
   nonobench_end(desk);
-  free(givens);
-  free(named);
   return status;
 }

@@ -29,13 +29,26 @@ static const char GIVEN[] = "nonocert 2\ngiven 1 1\nline r 1\nline c 1\nline r 2
 static const nonobench_place FIRST = {1, 1};
 static const nonobench_options ANY = {NULL, NULL, 0, true}, ONE = {NULL, &FIRST, 1, false};
 
-/* A picture without a certificate: its clues. */
+/* A picture without a certificate: its clues, below which is its palette. */
 static void run_picture(char *line, const char *answer) {
   char file[MOST], said[MOST];
   nonobench_text text = {said, sizeof said, 0};
   size_t size = unescape(line, strlen(line), file);
   uint32_t status = nonobench_clues(file, size, NULL, &text);
+  char *palette = strstr(said, "colour ");
+  expect((palette != NULL) == (status == NONOBENCH_DONE), "a palette", said);
+  if (palette) *palette = 0;
   expect(is_answer(answer, status, said), line, said);
+}
+
+/* Takes the lines of the givens off a text: they are those of the certificate. */
+static void take_givens(char *said, const char *certificate, size_t size) {
+  nonobench_place told[9], named[9];
+  size_t count = nonobench_givens(said, strlen(said), told, 9);
+  expect(nonobench_givens(certificate, size, named, 9) == count, "how many are told", said);
+  expect(memcmp(told, named, count * sizeof *told) == 0, "which are told", said);
+  char *end = strchr(said, '\n');
+  if (end) end[1] = 0;
 }
 
 /* A picture and a certificate under options. */
@@ -48,6 +61,7 @@ static void run_check(
   size_t size = unescape(lines, strlen(lines), certificate);
   uint32_t status =
       nonobench_check_pair(picture, strlen(picture), certificate, size, options, &text);
+  if (status == NONOBENCH_DONE) take_givens(said, certificate, size);
   expect(is_answer(answer, status, said), lines, said);
 }
 
@@ -109,7 +123,13 @@ static void test_answers(void) {
       "a given",
       said
   );
-  expect(strcmp(said, "certificate accepted, givens 1\n") == 0, "one given", said);
+  expect(strcmp(said, "certificate accepted, givens 1\ngiven 1 1\n") == 0, "one given", said);
+  place.row = 0;
+  expect(
+      nonobench_givens(said, text.size, &place, 1) == 1 && place.row == 1 && place.column == 1,
+      "the place that is told",
+      said
+  );
   expect(
       nonobench_check_pair(DIAGONAL, picture, GIVEN, cert, NULL, &text) == NONOBENCH_REFUSED,
       "one unpublished",
@@ -132,8 +152,9 @@ static void test_answers(void) {
       said
   );
   expect(
-      ruling == NONOBENCH_AMBIGUOUS && strcmp(said, "ambiguous\n.a\na.\n") == 0,
-      "the other picture",
+      ruling == NONOBENCH_AMBIGUOUS &&
+          strcmp(said, "ambiguous\n.a\na.\ncolour . 255 255 255\ncolour a 0 0 0\n") == 0,
+      "the other picture, and the palette",
       said
   );
   expect(
@@ -141,7 +162,11 @@ static void test_answers(void) {
       "one cell",
       said
   );
-  expect(ruling == NONOBENCH_UNIQUE && strcmp(said, "unique\n") == 0, "one cell is unique", said);
+  expect(
+      ruling == NONOBENCH_UNIQUE && strcmp(said, "unique\ncolour . 1 1 1\ncolour a 0 0 0\n") == 0,
+      "one cell is unique",
+      said
+  );
   expect(
       nonobench_verdict(DIAGONAL, picture, "1,2", 9, NULL, &text) == NONOBENCH_OPTIONS,
       "no colour",
@@ -158,7 +183,7 @@ static void test_answers(void) {
       "a black background",
       said
   );
-  expect(strcmp(said, "r 1: 0\nc 1: 0\n") == 0, "no clue", said);
+  expect(strcmp(said, "r 1: 0\nc 1: 0\ncolour . 0 0 0\n") == 0, "no clue", said);
   memset(said, '#', sizeof said);
   expect(nonobench_version((uint8_t *)said, 3) == strlen(TRIED), "how long the version is", said);
   expect(memcmp(said, TRIED, 3) == 0 && said[3] == '#', "the front of the version", said);
@@ -200,7 +225,7 @@ static void test_places(void) {
     size_t count;
     const char *said;
   } asked[] = {
-      {outside, 1, "certificate accepted, givens 1\n"},
+      {outside, 1, "certificate accepted, givens 1\ngiven 1 1\n"},
       {outside, 2, "givens Place at line 2"},
       {twice, 3, "givens Repeated at line 3"},
       {high, 1, "givens BadLine at line 1"},
@@ -265,7 +290,8 @@ static void test_certificates(void) {
       said
   );
   expect(
-      found.ruling == NONOBENCH_UNIQUE && strcmp(said, "unique\n") == 0 && found.certificate,
+      found.ruling == NONOBENCH_UNIQUE && found.certificate &&
+          strcmp(said, "unique\ncolour . 255 255 255\ncolour a 0 0 0\ncolour b 255 0 0\n") == 0,
       "its ruling",
       said
   );
@@ -284,7 +310,7 @@ static void test_certificates(void) {
   );
   expect(
       found.ruling == NONOBENCH_AMBIGUOUS && !found.certificate &&
-          strcmp(said, "ambiguous\n.a\na.\n") == 0,
+          strcmp(said, "ambiguous\n.a\na.\ncolour . 255 255 255\ncolour a 0 0 0\n") == 0,
       "which",
       said
   );
@@ -507,7 +533,7 @@ static void test_bad_input(void) {
       "no room",
       ""
   );
-  expect(none.size == 31, "how long it is", "");
+  expect(none.size == 41, "how long it is", "");
   expect(
       nonobench_check_pair(DIAGONAL, size, GIVEN, strlen(GIVEN), &broken, &text) ==
           NONOBENCH_OPTIONS,
@@ -626,16 +652,16 @@ static void test_no_text(void) {
 
 /* Each room from none to more than enough, with bytes behind it that must stay. */
 static void test_rooms(void) {
-  char said[64], whole[] = "ambiguous\n.a\na.\n";
+  char said[64], whole[] = "ambiguous\n.a\na.\ncolour . 255 255 255\ncolour a 0 0 0\n";
   bool holds = true;
-  for (size_t room = 0; room < 24; room++) {
-    size_t front = room == 0 ? 0 : room - 1 < 16 ? room - 1 : 16;
+  for (size_t room = 0; room < 60; room++) {
+    size_t front = room == 0 ? 0 : room - 1 < 52 ? room - 1 : 52;
     nonobench_text text = {said, room, 0};
     memset(said, '#', sizeof said);
     holds =
         holds &&
         nonobench_verdict(DIAGONAL, strlen(DIAGONAL), NULL, -1, NULL, &text) == NONOBENCH_DONE &&
-        text.size == 16;
+        text.size == 52;
     holds = holds && memcmp(said, whole, front) == 0 && (room == 0 || said[front] == 0);
     for (size_t at = room == 0 ? 0 : front + 1; at < sizeof said; at++)
       holds = holds && said[at] == '#';

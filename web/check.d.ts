@@ -16,7 +16,10 @@ export type { Checked, CheckOptions, Input, Place } from './nonobench.mjs';
 export interface Checker {
   /** Checks a certificate, in any of its forms, as Engine does. */
   check(picture: Input, certificate: Input, options?: CheckOptions): Checked;
-  /** The flaws that show without a search, such as 'blank', 'background' or 'alike a b'. Throws a Fault if the picture is refused. */
+  /**
+   * The flaws that show without a search, such as 'blank', 'background' or 'alike a b'. Throws a
+   * Fault if the picture is refused.
+   */
   flaws(picture: Input, options?: { background?: string | null }): string[];
   /** The version of the module, as the program prints it after the name. */
   readonly version: string;
@@ -26,5 +29,7 @@ export interface Checker {
   refuse(nth: number): void;
 }
 
-/** Makes a checker of nonobench-check.wasm: its bytes, or what WebAssembly.compile makes of them. */
+/**
+ * Makes a checker of nonobench-check.wasm: its bytes, or what WebAssembly.compile makes of them.
+ */
 export function load(module: Uint8Array | ArrayBuffer | WebAssembly.Module): Promise<Checker>;

@@ -8,7 +8,17 @@
 // givens}.
 // - checker.flaws(picture, {background: '0,0,0'}) gives such as ['blank', 'alike a b'].
 // - checker.version is as `nonobench --version` prints it after the name.
-import {backgroundOf, checkedOf, Fault, inputOf, instanceOf, isAnyGiven, publishedOf, refusalOf, Runs} from './nonobench.mjs';
+import {
+  backgroundOf,
+  checkedOf,
+  Fault,
+  inputOf,
+  instanceOf,
+  isAnyGiven,
+  publishedOf,
+  refusalOf,
+  Runs
+} from './nonobench.mjs';
 
 export {Fault};
 

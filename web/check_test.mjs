@@ -25,7 +25,7 @@ const PICTURE = 'P3 2 2 255 0 0 0 255 255 255 255 255 255 0 0 0\n';
 const CERTIFICATE = 'nonocert 2\ngiven 1 1\nline r 1\nline c 1\nline r 2\ndone\n';
 const ALL = 'nonocert 2\ngiven 1 1\ngiven 1 2\ngiven 2 1\ngiven 2 2\ndone\n';
 
-// The answer that is told, which the whole module gives too.
+// The answer that is reported, which the whole module gives too.
 function answerOf(checker, picture, certificate, options) {
   const answer = checker.check(picture, certificate, options);
   assert.deepEqual(answer, engine.check(picture, certificate, options));

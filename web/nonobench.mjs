@@ -9,7 +9,8 @@
 // givens}.
 // - engine.assess(picture, {background: '0,0,0'}) gives {verdict, .., grade, flaws, fit}.
 // - engine.prove(picture, {published: [[1, 1]]}) gives {ruling, certificate}.
-// - engine.clues(picture) gives what the program `nonobench` prints for it.
+// - engine.clues(picture) gives {text, palette}: what the program `nonobench` prints for it, and
+// which colour each letter is.
 // - engine.version is as `nonobench --version` prints it after the name.
 
 const DONE = 0;
@@ -23,8 +24,8 @@ const MOST_CELLS = 14400;
 // How many splits an allowance may name.
 const MOST_SPLITS = 99999;
 
-// The room that a text is first taken in.
-const ROOM = 65536;
+// The bytes in which a text is first taken.
+const FIRST_SIZE = 65536;
 
 // Where the handle of a bench lies, behind the desk's pointer in its cell.
 const HANDLE_AT = 8n;
@@ -42,7 +43,7 @@ const NAMES = {
   timeout: 'TimeoutError'
 };
 
-const placeOf = (digits) => (digits === undefined ? null : Number(digits));
+const numberOf = (digits) => (digits === undefined ? null : Number(digits));
 
 /**
  * Why a call was not answered. `kind` is what was refused: 'picture', 'certificate', 'givens',
@@ -57,8 +58,8 @@ export class Fault extends Error {
     this.name = name ?? NAMES[kind] ?? 'Fault';
     this.kind = kind;
     this.text = text;
-    this.byte = placeOf(byte);
-    this.line = placeOf(line);
+    this.byte = numberOf(byte);
+    this.line = numberOf(line);
   }
 }
 
@@ -103,7 +104,7 @@ function backgroundOf(options) {
 // Whether a file is a .non text: a line of it begins with a word of that format, and it does not
 // begin as a picture does.
 function isNon(bytes) {
-  const front = decoder.decode(bytes.subarray(0, ROOM));
+  const front = decoder.decode(bytes.subarray(0, FIRST_SIZE));
   return !/^P3(?:\s|#)/.test(front) &&
       /^[ \t]*(?:width|height|rows|columns|goal|catalogue|title)\b/m.test(front);
 }
@@ -146,21 +147,22 @@ function isNonFor(bytes, options, background) {
   return non;
 }
 
-// The givens that a right certificate names: their lines stand directly below its first one.
-function givensOf(certificate) {
-  const from = certificate.indexOf(0x0a) + 1;
-  if (certificate[from] !== 0x67) return [];  // 'g'
-  const text = decoder.decode(certificate), line = /given (\d+) (\d+)(?:\n|$)/y, givens = [];
+// The givens that a text names in lines directly below its first one: a right certificate, or the
+// engine's text for one that is accepted.
+function givensOf(bytes) {
+  const from = bytes.indexOf(0x0a) + 1;
+  if (bytes[from] !== 0x67) return [];  // 'g'
+  const text = decoder.decode(bytes), line = /given (\d+) (\d+)(?:\n|$)/y, givens = [];
   line.lastIndex = from;
   for (let found = line.exec(text); found; found = line.exec(text))
     givens.push([Number(found[1]), Number(found[2])]);
   return givens;
 }
 
-// The answer to a check, by its status and its text.
-function checkedOf(status, text, cert) {
+// The answer to a check, by its status, its line and what names the certificate's givens.
+function checkedOf(status, text, named) {
   const givens =
-      status === DONE || text.startsWith('certificate UnpublishedGiven ') ? givensOf(cert) : [];
+      status === DONE || text.startsWith('certificate UnpublishedGiven ') ? givensOf(named) : [];
   if (status === DONE &&
       text !== `certificate accepted${givens.length > 0 ? `, givens ${givens.length}` : ''}\n`)
     throw new Fault('ended', `the module names other givens: ${text}`);
@@ -184,17 +186,25 @@ const ODD_STARTS = new Map([
  */
 export function hintOf(text, certificate) {
   if (text.trimEnd() !== 'certificate NotCert at line 1') return '';
-  const front = bytesOf(certificate).subarray(0, ROOM),
+  const front = bytesOf(certificate).subarray(0, FIRST_SIZE),
         line = decoder.decode(front).split('\n', 1)[0];
   const odd = ODD_STARTS.get(front.subarray(0, 2).join(' '));
-  return odd ?? (line.endsWith('\r') ? 'its lines end with CR LF, and must end with LF alone' : '');
+  return odd ?? (line.endsWith('\r') ? 'its lines end with CR LF, and must end with LF only' : '');
 }
 
-// The text of an assessment, line by line.
+// Which colour each letter is, of lines such as `colour . 255 255 255`.
+function paletteOf(text) {
+  const found = text.matchAll(/^colour ([.a-o]) (\d+) (\d+) (\d+)$/gm);
+  return Object.fromEntries(
+      [...found].map(([, letter, ...samples]) => [letter, samples.map(Number)])
+  );
+}
+
+// The text of an assessment, line by line. The palette follows in that of the library's call.
 const ASSESSMENT = new RegExp([
   '^(?<verdict>unique|ambiguous|undecided)\\n(?<other>(?:[.a-o]+\\n)*)size (?<rows>N) (?<columns>N)\\ncolours (?<colours>N)\\n',
   'givens (?<givens>N)\\nopen (?<open>N)\\n(?:grade (?<word>[a-z-]+) (?<rounds>N) (?<evaluations>N) (?<wait>N)(?: (?<splits>N) (?<depth>N))?\\n)?',
-  '(?<said>(?:flaw [a-z]+(?: [.a-o0-9]+)*\\n)*)(?<end>fit|unfit)\\n$',
+  '(?<said>(?:flaw [a-z]+(?: [.a-o0-9]+)*\\n)*)(?<end>fit|unfit)\\n(?<palette>(?:colour [.a-o](?: N){3}\\n)*)$',
 ].join('').replaceAll('N', '\\d+'));
 
 const numbersIn = (found, names) => Object.fromEntries(
@@ -203,7 +213,7 @@ const numbersIn = (found, names) => Object.fromEntries(
 
 /**
  * What an assessment says, as a value: of the text of the library's call, the program or a
- * session, which is in `text`.
+ * session. What the program prints is in `text`; the palette is null if there is none in the text.
  */
 export function readAssessment(text) {
   const found = ASSESSMENT.exec(text)?.groups;
@@ -220,7 +230,8 @@ export function readAssessment(text) {
                         null,
     flaws: lines.filter((line) => line.startsWith('flaw ')).map((line) => line.slice(5)),
     fit: found.end === 'fit',
-    text,
+    palette: found.palette === '' ? null : paletteOf(found.palette),
+    text: text.slice(0, text.length - found.palette.length),
   };
 }
 
@@ -291,6 +302,7 @@ class Engine {
     const background = this.#background(options), non = isNonFor(bytes, options, background);
     // Each bench has a desk of its own, which ends in a moment, however many others are open.
     const cell = this.#desk();
+    let palette;
     try {
       const status = this.#lend(
           [bytes, background],
@@ -299,11 +311,13 @@ class Engine {
           )
       );
       if (status !== DONE) this.#refuse(status, cell);
+      palette = paletteOf(this.#text(cell));
     } catch (fault) {
       this.#end(cell);
       throw fault;
     }
-    const bench = new Bench((lines) => this.#say(cell, lines), () => this.#close(cell, bench));
+    const bench =
+        new Bench(palette, (lines) => this.#say(cell, lines), () => this.#close(cell, bench));
     this.#dropped.register(bench, cell, bench);
     return bench;
   }
@@ -318,14 +332,16 @@ class Engine {
    */
   check(picture, certificate, options = {}) {
     const background = this.#background(options), isAny = isAnyGiven(options);
-    const cert = inputOf(certificate);  // what is checked here, and what the givens are read of
+    const cert = inputOf(certificate);
     const files = [inputOf(picture), cert, ...(isAny ? [] : [publishedOf(options)]), background];
     const call = isAny ? 'nonobench_check_any_given' : 'nonobench_check';
     const status = this.#lend(
         files, (lent) => this.#calls[call](this.#cell, ...lent.flatMap(({at, size}) => [at, size]))
     );
     if (status === MEMORY || status === OPTIONS) this.#refuse(status);
-    return checkedOf(status, this.#text(), cert);
+    const said = this.#text();
+    if (status !== DONE) return checkedOf(status, said, cert);
+    return checkedOf(status, said.slice(0, said.indexOf('\n') + 1), inputOf(said));
   }
 
   /**
@@ -402,15 +418,15 @@ class Engine {
   }
 
   /**
-   * The clues of a file, a line each, as the program prints them. Throws a Fault if the file is
-   * refused.
+   * The clues of a file: {text, palette}, with a line for each row and column in the text, as the
+   * program prints them. Throws a Fault if the file is refused.
    */
   clues(file, options = {}) {
     const bench = this.open(file, options);
     try {
       const text = bench.say('clues\n');
       if (text.startsWith('refused')) this.#refuse(MEMORY);
-      return text;
+      return {text, palette: bench.palette};
     } finally {
       bench.close();
     }
@@ -435,7 +451,7 @@ class Engine {
 
   /** The version of the module, as the program prints it after its name. */
   get version() {
-    return this.#put((out, room) => this.#calls.nonobench_version(out, room));
+    return this.#put((out, size) => this.#calls.nonobench_version(out, size));
   }
 
   /** For tests: lets the nth growth of memory from now on be refused; 0 for none. */
@@ -450,9 +466,9 @@ class Engine {
 
   // A new desk, in a cell with room for a handle.
   #desk() {
-    const cell = this.#room(16);
+    const cell = this.#allocate(16);
     if (this.#runs.of(() => this.#calls.nonobench_start(cell)) === DONE) return cell;
-    this.#give(cell);
+    this.#free(cell);
     throw new Fault('memory', 'memory');
   }
 
@@ -476,20 +492,20 @@ class Engine {
 
   // The text of the last call on a desk.
   #text(cell = this.#cell) {
-    return this.#put((out, room) => this.#calls.nonobench_take(cell, out, room));
+    return this.#put((out, size) => this.#calls.nonobench_take(cell, out, size));
   }
 
   // The text that a call puts out, as far as there is room, and answers how many bytes it has.
   #put(call) {
-    for (let room = ROOM;;) {
-      const out = this.#room(room);
+    for (let most = FIRST_SIZE;;) {
+      const out = this.#allocate(most);
       try {
-        const size = Number(this.#runs.of(() => call(out, BigInt(room))));
-        if (size <= room)
+        const size = Number(this.#runs.of(() => call(out, BigInt(most))));
+        if (size <= most)
           return decoder.decode(new Uint8Array(this.#calls.memory.buffer, Number(out), size));
-        room = size;
+        most = size;
       } finally {
-        this.#give(out);
+        this.#free(out);
       }
     }
   }
@@ -499,23 +515,23 @@ class Engine {
     const lent = [];
     try {
       for (const bytes of inputs) {
-        const at = this.#room(bytes.length);
+        const at = this.#allocate(bytes.length);
         new Uint8Array(this.#calls.memory.buffer, Number(at), bytes.length).set(bytes);
         lent.push({at, size: BigInt(bytes.length)});
       }
       return this.#runs.of(() => call(lent));
     } finally {
-      for (const {at} of lent) this.#give(at);
+      for (const {at} of lent) this.#free(at);
     }
   }
 
-  #room(size) {
+  #allocate(size) {
     const at = this.#runs.of(() => this.#calls.malloc(BigInt(size)));
     if (at === 0n) throw new Fault('memory', 'memory');
     return at;
   }
 
-  #give(at) {
+  #free(at) {
     if (!this.#runs.hasEnded) this.#calls.free(at);
   }
 }
@@ -529,7 +545,9 @@ class Bench {
   #close;
   #isClosed = false;
 
-  constructor(say, close) {
+  constructor(palette, say, close) {
+    /** Which colour each letter is, of the picture as it was opened. */
+    this.palette = palette;
     this.#say = say;
     this.#close = close;
   }

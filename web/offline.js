@@ -26,6 +26,6 @@ self.addEventListener('fetch', (event) => {
   event.respondWith(
       caches.open(STORE).then(
                             (store) => store.match(event.request, {ignoreSearch: true})
-      ).then((kept) => kept ?? fetch(event.request))
+      ).then((stored) => stored ?? fetch(event.request))
   );
 });

@@ -2,14 +2,29 @@
 // expected stand in tests/ and examples/, or are worked out by hand from docs/SESSION.md.
 import assert from 'node:assert/strict';
 import {spawn, spawnSync} from 'node:child_process';
-import {existsSync, mkdirSync, mkdtempSync, readFileSync, readdirSync, rmSync, truncateSync, writeFileSync} from 'node:fs';
+import {
+  existsSync,
+  mkdirSync,
+  mkdtempSync,
+  readFileSync,
+  readdirSync,
+  rmSync,
+  truncateSync,
+  writeFileSync
+} from 'node:fs';
 import {tmpdir} from 'node:os';
 import {dirname, join, resolve} from 'node:path';
 import test from 'node:test';
 import {fileURLToPath} from 'node:url';
 import {setFlagsFromString} from 'node:v8';
 import {runInNewContext} from 'node:vm';
-import {faultBy, mustCheckForms, mustCheckPublished, pictureOf, refusedInTurn} from '../tests/cases.mjs';
+import {
+  faultBy,
+  mustCheckForms,
+  mustCheckPublished,
+  pictureOf,
+  refusedInTurn
+} from '../tests/cases.mjs';
 import {TRIED, long, waits} from '../tests/waits.mjs';
 import {Fault, hintOf, load, readAssessment, readPath} from './nonobench.mjs';
 
@@ -156,16 +171,42 @@ test(
 test('the clues of a picture and a puzzle, and each growth refused in turn', async () => {
   const engine = await fresh();
   const clues = 'r 1: 1a\nr 2: 1a\nc 1: 1a\nc 2: 1a\n';
-  assert.equal(engine.clues(DIAGONAL), clues);
-  assert.equal(engine.clues(PUZZLE), clues);
+  assert.equal(engine.clues(DIAGONAL).text, clues);
+  assert.equal(engine.clues(PUZZLE).text, clues);
   assert.equal(
-      engine.clues('P3 2 1 255 1 2 3 4 5 6\n', {background: '4,5,6'}), 'r 1: 1a\nc 1: 1a\nc 2: 0\n'
+      engine.clues('P3 2 1 255 1 2 3 4 5 6\n', {background: '4,5,6'}).text,
+      'r 1: 1a\nc 1: 1a\nc 2: 0\n'
   );
   assert.deepEqual(faultOf(() => engine.clues('P4\n')), ['picture', 'ppm NotP3 at byte 0']);
   assert.deepEqual(faultOf(() => engine.clues('width 2\n')), ['picture', 'non MissingSize']);
-  const {answer, refused} = refusedInTurn(engine, () => engine.clues(DIAGONAL));
+  const {answer, refused} = refusedInTurn(engine, () => engine.clues(DIAGONAL).text);
   assert.equal(answer, clues);
   assert.ok(refused > 10, `${refused}`);
+});
+
+test('a palette says which colour each letter is', {skip: waits('0.8.0')}, async () => {
+  const engine = await fresh(), picture = 'P3 3 1 65535 9 0 65535 1 2 3 0 0 0\n';
+  const palettes = [
+    // The background first, also where no cell has it; the others as they first appear.
+    [DIAGONAL, {}, {'.': [255, 255, 255], a: [0, 0, 0]}],
+    [picture, {}, {'.': [65535, 65535, 65535], a: [9, 0, 65535], b: [1, 2, 3], c: [0, 0, 0]}],
+    [picture, {background: '1,2,3'}, {'.': [1, 2, 3], a: [9, 0, 65535], b: [0, 0, 0]}],
+    [PUZZLE, {format: 'non'}, {'.': [255, 255, 255], a: [0, 0, 0]}],
+  ];
+  for (const [file, options, palette] of palettes) {
+    const bench = engine.open(file, options);
+    for (const found
+             of [bench.palette,
+                 engine.clues(file, options).palette,
+                 engine.assess(file, options).palette]) {
+      assert.deepEqual(found, palette);
+      assert.equal(Object.keys(found)[0], '.');
+    }
+    bench.close();
+  }
+  const samples = Array.from({length: 15}, (_, at) => `${at} 65535 65535`).join(' ');
+  const letters = Object.keys(engine.clues(`P3 15 1 65535 ${samples}\n`).palette).join('');
+  assert.equal(letters, '.abcdefghijklmno');
 });
 
 test('a bench lives between calls, and several are apart', async () => {
@@ -445,8 +486,8 @@ test(
           calls.nonobench_open(cell, file + 2n ** 32n, size, 0, file, 0n, 1, cell + 8n), 6
       );
       assert.equal(calls.nonobench_open(cell, file, size, 0, file, 0n, 1, cell + 8n), 0);
-      for (const room of [1n, 16n, 17n, 1000n, 100000n])
-        assert.equal(calls.malloc(room) % 16n, 0n, `${room}`);
+      for (const size of [1n, 16n, 17n, 1000n, 100000n])
+        assert.equal(calls.malloc(size) % 16n, 0n, `${size}`);
     }
 );
 
@@ -528,7 +569,8 @@ test('puzzles are assessed as the cases say, and what is said is a value', async
   const engine = await fresh();
   for (const [puzzle, options, lines] of ASSESSED)
     assert.equal(engine.assess(puzzle, options).text, lines.replaceAll('/', '\n') + '\n', lines);
-  const {text: said, ...one} = engine.assess(DIAGONAL, {published: [[1, 1], [2, 2]]});
+  const {text: said, palette, ...one} = engine.assess(DIAGONAL, {published: [[1, 1], [2, 2]]});
+  assert.equal(readAssessment(said).palette, null);
   assert.deepEqual(one, {
     verdict: 'unique',
     other: null,
@@ -658,10 +700,12 @@ test(
         calls.nonobench_refuse(0);
         return status;
       };
+      assert.equal(open(), 0);
+      // The palette: `colour . 255 255 255` and `colour a 0 0 0`, a line each.
+      assert.equal(calls.nonobench_take(cell, file, 0n), waits('0.8.0') ? 0n : 36n);
       const cases = [
         [4, () => short(() => open())],
         [4, () => short(() => check())],
-        [0, () => open()],
         [5, () => calls.nonobench_say(cell, 9, file, size)],
         [5, () => calls.nonobench_close(cell, 9)],
         [0, () => calls.nonobench_close(cell, 1)],
@@ -942,6 +986,22 @@ test(
     }
 );
 
+test('the givens of a certificate that is accepted are those that the engine read', async () => {
+  const {engine, calls} = await watched();
+  const certificate = 'nonocert 2\ngiven 1 1\nline r 1\nline c 1\nline r 2\ndone\n',
+        plain = calls.nonobench_check;
+  calls.nonobench_check = (...words) => {
+    // The module's copy of the certificate names another cell.
+    const at = Number(words[3]) + certificate.indexOf('1\nline');
+    new Uint8Array(calls.memory.buffer)[at] = 0x32;
+    return plain(...words);
+  };
+  assert.deepEqual(
+      engine.check(DIAGONAL, certificate, {published: [[1, 1], [1, 2]]}),
+      {accepted: true, status: 0, text: 'certificate accepted, givens 1\n', givens: [[1, 2]]}
+  );
+});
+
 // What a merge of somebody's JSON may leave behind, while a call runs.
 function polluted(properties, call) {
   Object.assign(Object.prototype, properties);  // eslint-disable-line no-extend-native
@@ -969,7 +1029,7 @@ test('an option is a property of the object itself', async () => {
       polluted(pollution, () => engine.check(unique, certificate)).text, 'certificate accepted\n'
   );
   assert.equal(polluted(pollution, () => engine.prove(unique).ruling), 'unique');
-  assert.equal(polluted(pollution, () => engine.clues(unique)), engine.clues(unique));
+  assert.deepEqual(polluted(pollution, () => engine.clues(unique)), engine.clues(unique));
   const bench = polluted(pollution, () => engine.open(unique));
   assert.equal(bench.say('pin 1 1\npin 1 2\nundo\nundo\n'), 'ok\n'.repeat(4));
   // A hole in a pair is no number, and one among pairs is no pair, whatever stands on the
@@ -991,12 +1051,12 @@ test('an option is a property of the object itself', async () => {
 });
 
 test('a bench is closed in a moment, however many others are open', async () => {
-  const engine = await fresh(), held = [];
+  const engine = await fresh(), benches = [];
   const times = [
     () => {
-      for (let i = 0; i < 8000; i += 1) held.push(engine.open(DIAGONAL));
+      for (let i = 0; i < 8000; i += 1) benches.push(engine.open(DIAGONAL));
     },
-    () => held.forEach((bench) => bench.close())
+    () => benches.forEach((bench) => bench.close())
   ].map((run) => {
     const from = process.cpuUsage();
     run();
@@ -1062,21 +1122,21 @@ test(
     'memory that was full of benches is whole again once they are closed',
     {skip: long},
     async () => {
-      const {engine, calls} = await watched(), held = [];
+      const {engine, calls} = await watched(), benches = [];
       const large = [29n, 28n].map(
           (size) => calls.malloc(2n ** size - 16n)
       );  // so that fewer benches fill it
       assert.deepEqual(
           faultOf(() => {
-            for (;;) held.push(engine.open(DIAGONAL));
+            for (;;) benches.push(engine.open(DIAGONAL));
           }),
           ['memory', 'memory']
       );
-      const count = held.length;
+      const count = benches.length;
       assert.ok(count > 1000, `${count}`);
       // Every second one first, so that what is free lies in pieces.
       for (const part of [0, 1])
-        held.forEach((bench, at) => {
+        benches.forEach((bench, at) => {
           if (at % 2 === part) bench.close();
         });
       large.forEach((at) => calls.free(at));
@@ -1157,7 +1217,7 @@ test(
 test('an error says what was refused, its name and its place', async () => {
   const engine = await fresh();
   const given = 'nonocert 2\ngiven 1 1\nline r 1\nline c 1\nline r 2\ndone\n';
-  for (const [call, ...told] of [
+  for (const [call, ...wanted] of [
            [() => engine.open('P3 1 1 1 0 0 2'), 'picture', 'SampleOver', 13, null],
            [() => engine.assess('width 2\n'), 'picture', 'MissingSize', null, null],
            [() => engine.prove('P6'), 'picture', 'NotP3', 0, null],
@@ -1187,7 +1247,7 @@ test('an error says what was refused, its name and its place', async () => {
            [() => engine.open(DIAGONAL, {history: 0}), 'option', 'Fault', null, null]]) {
     assert.throws(call, (fault) => {
       assert.ok(fault instanceof Fault && fault.message === fault.text);
-      assert.deepEqual([fault.kind, fault.name, fault.byte, fault.line], told);
+      assert.deepEqual([fault.kind, fault.name, fault.byte, fault.line], wanted);
       return true;
     });
   }
@@ -1196,7 +1256,8 @@ test('an error says what was refused, its name and its place', async () => {
 test('an engine is made of a module that is compiled, too', async () => {
   const module = await WebAssembly.compile(bytes);
   const engines = [await load(module), await load(module)];
-  for (const engine of engines) assert.equal(engine.clues('P3 1 1 1 0 0 0'), 'r 1: 1a\nc 1: 1a\n');
+  for (const engine of engines)
+    assert.equal(engine.clues('P3 1 1 1 0 0 0').text, 'r 1: 1a\nc 1: 1a\n');
   assert.notEqual(engines[0].open(DIAGONAL), engines[1].open(DIAGONAL));
 });
 
@@ -1446,7 +1507,7 @@ test('a certificate that an editor changed is told so, beside NotCert', async ()
         return isBig ? pair.reverse() : pair;
       }));
   const changed = [
-    [certificate.replaceAll('\n', '\r\n'), 'its lines end with CR LF, and must end with LF alone'],
+    [certificate.replaceAll('\n', '\r\n'), 'its lines end with CR LF, and must end with LF only'],
     [
       `\ufeff${certificate}`,
       'it begins with a byte order mark, and must begin with its first word'
@@ -1500,11 +1561,11 @@ test('the example reads regular files alone, and none that is too long', {skip: 
   );
   // Of one that could be read whole, nothing is.
   truncateSync(long, 1500000000);
-  const told = join(folder, 'told'), early = join(folder, 'early.cjs');
+  const report = join(folder, 'report'), early = join(folder, 'early.cjs');
   writeFileSync(
       early,
       `process.on('exit', () => require('node:fs').writeFileSync(${
-          JSON.stringify(told)}, String(process.resourceUsage().maxRSS)));`
+          JSON.stringify(report)}, String(process.resourceUsage().maxRSS)));`
   );
   const run = spawnSync(
       process.execPath,
@@ -1517,11 +1578,11 @@ test('the example reads regular files alone, and none that is too long', {skip: 
       }
   );
   assert.equal(run.status, 1);
-  assert.ok(Number(readFileSync(told, 'utf8')) < 200 * 1024, readFileSync(told, 'utf8'));
+  assert.ok(Number(readFileSync(report, 'utf8')) < 200 * 1024, readFileSync(report, 'utf8'));
   truncateSync(long, 4194304);
   assert.deepEqual(uploaded(folder, long, certificate), ['refused: ppm NotP3 at byte 0\n', 1]);
   assert.deepEqual(uploaded(folder, picture, writeCrlf(folder, certificate)), [
-    'refused: certificate NotCert at line 1 (its lines end with CR LF, and must end with LF alone)\n',
+    'refused: certificate NotCert at line 1 (its lines end with CR LF, and must end with LF only)\n',
     1
   ]);
 });

@@ -18,7 +18,7 @@ use Rattle.cert_check.proofs.AmongLemmas.{among_first, among_rest}
 use Rattle.certificate.specs.Finding.{Finds, IsFoundForm}
 use Rattle.certificate.specs.declared.proving.Reach.{Reach}
 use Rattle.certificate.specs.declared.proving.Reach.TheVariants.{Bounded}
-use Rattle.givens_text.specs.Published.{IsSetOf}
+use Rattle.text_check.specs.Givens.{IsSetOf}
 use Rattle.lemma_proof.specs.declared.making.Made.{Made}
 use Rattle.lemma_proof.specs.declared.making.Made.TheVariants.{Proof, Other, Undecided}
 use Rattle.lemma_proof.specs.Making.{IsAsGood, IsMadeProof}

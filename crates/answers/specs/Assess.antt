@@ -11,12 +11,13 @@ use Rattle.cert_text.specs.declared.cert_line.CellNumber.{CellNumber}
 use Rattle.cert_text.specs.declared.fault.CertFault.{CertFault}
 use Rattle.cert_text.specs.Cert.{Certificate}
 use Rattle.cert_text.specs.Reading.{cert_of}
-use Rattle.givens_text.specs.declared.fault.GivensFault.{GivensFault}
-use Rattle.givens_text.specs.Published.{IsSetOf, cells_of}
+use Rattle.text_check.specs.declared.givens_fault.GivensFault.{GivensFault}
+use Rattle.text_check.specs.Givens.{IsSetOf, cells_of}
 use Rattle.assess.specs.declared.assessment.Assessment.{Assessment}
 use Rattle.assess.specs.Assessed.{IsAssessment, is_fit}
 use Rattle.assess.specs.AssessedBy.{IsAssessmentBy, IsRefused}
-use Rattle.assess_text.specs.AssessmentText.{assessment_text}
+use Rattle.report_text.specs.AssessmentText.{assessment_text}
+use Rattle.report_text.specs.Report.{palette_text}
 use Rattle.edits.specs.Design.{Design, design_of}
 use Rattle.program_options.specs.declared.assessing.AssessOptions.{AssessOptions}
 use Rattle.program_options.specs.declared.fault.ProgramFault.{ProgramFault}
@@ -100,7 +101,7 @@ Finds document (Some text) options r = (r ≡ Err Memory) ⊎ FindsBy document (
 
 -- ---- the block
 
--- a puzzle's block: its assessment as text, and whether that says that it is fit to be published
+-- a puzzle's block: its assessment as text, which colour each letter is, and whether it is fit to be published
 pub record IsBlock (file : List ℕ) (givens cert : Option (List ℕ)) (options : AssessOptions) (block : Block)
     : Type 0 where
   pub document : Document
@@ -108,6 +109,7 @@ pub record IsBlock (file : List ℕ) (givens cert : Option (List ℕ)) (options 
   pub found : Assessment
   pub finds : Finds document cert options (Ok found)
   pub text : block.text.items ≡ assessment_text found
+  pub palette : block.palette.items ≡ palette_text document.palette
   pub fit : block.is_fit ≡ is_fit found
 
 -- the certificate of a puzzle is refused

@@ -14,13 +14,16 @@ use Rattle.program_options.specs.declared.fault.ProgramFault.TheVariants.{Memory
 use Rattle.program_options.specs.Faults.{check_fault_of}
 use Rattle.text_check.specs.Check.{IsCheckBy}
 
--- what is to be shown for a picture's text and a certificate's text: the line, or the program's error
-abbrev pub IsCheck : Result Content PpmFault → Result Certificate CertFault → Result (List ℕ) ProgramFault → Type 0
-IsCheck read cert shown = IsCheckBy check_fault_of read cert shown
+-- what is to be shown for the texts of a picture, of published givens and of a certificate: the line, or the program's
+-- error
+abbrev pub IsCheck : Result Content PpmFault → Option (List ℕ) → Result Certificate CertFault
+    → Result (List ℕ) ProgramFault → Type 0
+IsCheck read givens cert shown = IsCheckBy check_fault_of read givens cert shown
 
--- what a check of two files shows, by their bytes
-abbrev pub IsCheckOf : List ℕ → Option Rgb → List ℕ → Result (List ℕ) ProgramFault → Type 0
-IsCheckOf file background cert shown = IsCheckBy check_fault_of (ppm_of file background) (cert_of cert) shown
+-- what a check of files shows, by their bytes
+abbrev pub IsCheckOf : List ℕ → Option Rgb → Option (List ℕ) → List ℕ → Result (List ℕ) ProgramFault → Type 0
+IsCheckOf file background givens cert shown =
+    IsCheckBy check_fault_of (ppm_of file background) givens (cert_of cert) shown
 
 -- What a call wrote where this is to be shown: the text; after a write error a prefix of it; after any other error
 -- nothing.

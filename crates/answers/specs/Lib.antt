@@ -2,6 +2,5 @@ pub mod Assess
 pub mod Check
 pub mod Open
 pub mod Prove
-pub mod Published
 pub mod Run
 pub mod Start

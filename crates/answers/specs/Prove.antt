@@ -11,8 +11,8 @@ use Rattle.clues.specs.ClueBook.{clues_of}
 use Rattle.clues.specs.Solution.{IsOther}
 use Rattle.ppm_text.specs.declared.fault.PpmFault.{PpmFault}
 use Rattle.ppm_text.specs.Ppm.{ppm_of}
-use Rattle.givens_text.specs.declared.fault.GivensFault.{GivensFault}
-use Rattle.givens_text.specs.Published.{IsSetOf, cells_of}
+use Rattle.text_check.specs.declared.givens_fault.GivensFault.{GivensFault}
+use Rattle.text_check.specs.Givens.{IsSetOf, cells_of}
 use Rattle.cert_text.specs.declared.cert_line.CellNumber.{CellNumber}
 use Rattle.cert_text.specs.declared.form.Form.{Form}
 use Rattle.cert_text.specs.declared.form.Form.TheVariants.{Tree, GivenTree, Lemmas, LemmaRuns}

@@ -6,20 +6,21 @@ ghost use Rattle.answers.specs.Open.{Opened};
 
 use crate::open::in_black;
 use assess::{Assessment, assess, assess_by};
-use assess_text::push_assessment;
 use cert_text::read_cert;
-use givens_text::published_cells;
 use line_settle::MaskEngine;
 use non_text::{NonPuzzle, puzzles_are_in_two_colours, read_non};
 use picture::{Document, MAX_SIDE};
 use ppm_text::read_ppm;
 use program_options::{AssessOptions, ProgramFault};
+use report_text::{palette_text, push_assessment};
 use std::alloc::Global;
+use text_check::published_cells;
 
-/// What is found of a puzzle, as text, and whether that is fit to be published.
+/// What is found of a puzzle, as text; which colour each letter is, as text; and whether the puzzle is fit to be published.
 #[derive(Drop)]
 pub struct Block {
     pub text: Vec<u8>,
+    pub palette: Vec<u8>,
     pub is_fit: bool,
 }
 
@@ -42,8 +43,10 @@ pub fn run_assess(
     let found = found_of(alloc, &document, cert, options)?;
     let mut text = Vec::new(alloc);
     push_assessment(&mut text, &found)?;
+    let palette = palette_text(alloc, &document.palette)?;
     Ok(Block {
         text,
+        palette,
         is_fit: found.is_fit(),
     })
 }

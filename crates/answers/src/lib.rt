@@ -9,7 +9,7 @@ mod prove;
 mod run;
 
 pub use assessing::{Block, run_assess};
-pub use check::{run_check, run_check_published};
+pub use check::run_check;
 pub use open::start_bench;
 pub use program_options::{
     AssessOptions, Options, ProgramFault, ProveOptions, VERSION, background_in,

@@ -3,12 +3,11 @@
 ghost use Rattle.std.specs.Prelude.{◌≡◌, [], false, length, option_map, IfOk, OnOk};
 ghost use Rattle.answers.specs.Prove.{AnswersShown, IsCertShown, IsProveOf, IsShownFor, Proves, WritesProof, given_cells};
 ghost use Rattle.cert_text.specs.WrittenCert.{cert_text};
-ghost use Rattle.givens_text.specs.Published.{AreInside, IsRead, IsSetOf};
+ghost use Rattle.text_check.specs.Givens.{AreInside, IsRead, IsSetOf};
 ghost use Rattle.picture.specs.Rows.{width_of};
 
 use cert_text::{Cert, Form, write_cert};
 use certificate::{Reach, find_proof};
-use givens_text::{GivensFault, published_cells};
 use lemma_proof::{Made, with_single_steps};
 use line_settle::MaskEngine;
 use picture::{CellSet, MAX_SIDE, Picture, send};
@@ -16,6 +15,7 @@ use ppm_text::read_ppm;
 use program_options::{ProgramFault, ProveOptions};
 use std::alloc::{AllocError, Global};
 use std::io::Write;
+use text_check::{GivensFault, published_cells};
 
 /// Makes a certificate of the picture of a P3 text, and writes its text. Its givens are exactly the cells that the text of
 /// givens names, or none without one. If it has the form of a certificate with lemmas, that is the one that the options name;

@@ -1,5 +1,5 @@
 -- Judgements as verdicts, and how often they call the engine at most.
-use Rattle.std.proofs.Common.{◌≡◌, ℕ, zero, suc, ◌+◌, ◌*◌, ◌<◌, ◌≤◌, List, [], Option, None, Some, Result, Ok, MatchResult, length, refl, sym, ap, subst, arith, inl, inr}
+use Rattle.std.proofs.Common.{◌≡◌, ◌⊎◌, ℕ, zero, suc, ◌+◌, ◌*◌, ◌<◌, ◌≤◌, List, [], Option, None, Some, Result, Ok, MatchResult, IfNone, IfSome, length, refl, sym, ap, subst, arith, inl, inr}
 use Rattle.std.proofs.lemmas.Bool.{cases_eq}
 use Rattle.std.proofs.lemmas.List.{length-map}
 use Rattle.std.proofs.lemmas.Nat.{mul-add-lt}
@@ -18,7 +18,8 @@ use Rattle.second_search.specs.declared.keeper.Judged.{Judged}
 use Rattle.second_search.specs.declared.keeper.Judged.TheVariants as judged
 use Rattle.second_search.specs.declared.keeper.KeptPart.{KeptPart}
 use Rattle.second_search.specs.Answer.{IsAnswer}
-use Rattle.second_search.specs.Evaluations.{AreFew, most_in_tree, most_to_close, most_to_search}
+use Rattle.certificate.specs.MadeCert.{HasOther, IsMade}
+use Rattle.second_search.specs.Evaluations.{AreFew, BothReach, most_in_tree, most_to_close, most_to_search}
 use Rattle.second_search.specs.JudgedParts.{AnswersAs, Done, Judges, Starts, parts_of}
 use Rattle.second_search.specs.Parts.{AreParts, IsBefore, IsScene, board}
 use Rattle.second_search.specs.Verdict.{Verdict as Judgement}
@@ -30,6 +31,7 @@ use Rattle.assess.specs.declared.assessment.Verdict.{Verdict}
 use Rattle.assess.specs.declared.assessment.Verdict.TheVariants as verdicts
 use Rattle.assess.specs.declared.grading.TheConstants.{GRADE_EVALUATIONS, GRADE_LINES}
 use Rattle.assess.specs.Calls.{AreFewBy, AreFewInAll, AreFewInParts, most_besides, most_in_parts, most_in_trees, most_to_grade}
+use Rattle.assess.specs.Grades.{IsBeyond, IsIfShort}
 use Rattle.assess.specs.Judging.{AreJudged, IsVerdict, verdict_of}
 use Rattle.assess.specs.Settling.{HasFigures, IsMap}
 
@@ -186,3 +188,21 @@ few_by picture givens cert figures before checked looked graded after f a b g mo
         (let m : after ≤ before + (length cert.lines + (length f.looks + (most_to_grade picture + cell_count givens * most_to_close picture))) = omega arith in m),
       ),
     )
+
+-- ---- no grade
+
+-- no certificate within the bounds was made, or the one that was made is too long
+pub none_short : (picture : Rows) (givens : List ℕ) (before after : ℕ) (found short : Option Certificate) → IfSome found (IsMade picture givens)
+    → IfNone found (HasOther picture givens ⊎ BothReach GRADE_EVALUATIONS before after) → IsIfShort found short → IfNone short (HasOther picture givens ⊎ IsBeyond picture givens before after)
+none_short picture givens before after None None made (inl other) is = inl other
+none_short picture givens before after None None made (inr reach) is = inr (inl reach)
+none_short picture givens before after None (Some short) made none is = tt
+none_short picture givens before after (Some cert) None made none is = inr (inr (cert, (made, is)))
+none_short picture givens before after (Some cert) (Some short) made none is = tt
+
+-- where there is no other picture, there is no grade only beyond the bounds
+pub only_beyond : (picture : Rows) (givens : List ℕ) (before between ending after : ℕ) → IsOnlySolution (clues_of picture) (HasCell givens) picture
+    → HasOther picture givens ⊎ IsBeyond picture givens between ending → before ≤ between → ending ≤ after → IsBeyond picture givens before after
+only_beyond picture givens before between ending after only (inl (other, is)) b e = absurd (is.differs (only other is.solves))
+only_beyond picture givens before between ending after only (inr (inl reach)) b e = inl (omega arith)
+only_beyond picture givens before between ending after only (inr (inr long)) b e = inr long

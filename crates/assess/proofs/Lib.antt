@@ -1,3 +1,5 @@
+pub mod AheadLemmas
+pub mod BranchLemmas
 pub mod JudgeLemmas
 pub mod MapLemmas
 pub mod OrderLemmas

@@ -1,16 +1,17 @@
 -- The grade of a puzzle with one solution.
-use Rattle.std.specs.Prelude.{◌≡◌, ℕ, ◌<◌, ◌≤◌, List, Option, None, Some, length}
+use Rattle.std.specs.Prelude.{◌≡◌, ◌⊎◌, ℕ, ◌<◌, ◌≤◌, List, Option, None, Some, length}
 use Rattle.picture.specs.Rows.{Rows}
 use Rattle.cert_text.specs.Cert.{Certificate}
-use Rattle.cert_figures.specs.declared.guesses.Guesses.{Guesses}
-use Rattle.cert_figures.specs.Guessing.{HasGuesses}
+use Rattle.assess.specs.declared.guesses.Guesses.{Guesses}
+use Rattle.assess.specs.Guessing.{HasGuesses}
 use Rattle.certificate.specs.MadeCert.{IsMade}
 use Rattle.grade.specs.declared.figures.Figures.{Figures}
 use Rattle.grade.specs.declared.word.Grade.{Grade}
 use Rattle.grade.specs.Words.{word_of}
 use Rattle.assess.specs.declared.assessment.Verdict.{Verdict}
 use Rattle.assess.specs.declared.assessment.Verdict.TheVariants.{Unique, Ambiguous, Undecided}
-use Rattle.assess.specs.declared.grading.TheConstants.{GRADE_LINES}
+use Rattle.assess.specs.declared.grading.TheConstants.{GRADE_EVALUATIONS, GRADE_LINES}
+use Rattle.second_search.specs.Evaluations.{BothReach}
 
 -- the grade with these figures, splits and depth
 abbrev pub grade_of : Figures → ℕ → ℕ → Grade
@@ -28,6 +29,13 @@ pub record IsGradeBy (picture : Rows) (cert : Certificate) (figures : Figures) (
 pub record IsShortCert (picture : Rows) (givens : List ℕ) (cert : Certificate) : Type 0 where
   pub is_made : IsMade picture givens cert
   pub short : length cert.lines ≤ GRADE_LINES
+
+-- The grade of a puzzle with open cells is beyond the bounds: both trees have evaluated as many lines as they may, or the
+-- certificate that was made has too many lines.
+abbrev pub IsBeyond : Rows → List ℕ → ℕ → ℕ → Type 0
+IsBeyond picture givens before after =
+    BothReach GRADE_EVALUATIONS before after
+    ⊎ ((cert : Certificate) × (IsMade picture givens cert × (GRADE_LINES < length cert.lines)))
 
 -- the certificate that was found stays, exactly if its number of lines is within the bound
 abbrev pub IsIfShort : Option Certificate → Option Certificate → Type 0

@@ -2,7 +2,9 @@ pub mod Assessed
 pub mod AssessedBy
 pub mod Calls
 pub mod Grades
+pub mod Guessing
 pub mod Judging
 pub mod Looked
+pub mod Nesting
 pub mod Settling
 pub mod Spares

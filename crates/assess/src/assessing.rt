@@ -1,9 +1,10 @@
 //! A puzzle assessed.
 
-ghost use Rattle.std.specs.Prelude.{◌≡◌, ◌≤◌, IfOk, MatchResult};
+ghost use Rattle.std.specs.Prelude.{◌≡◌, ◌≤◌, None, IfOk, MatchResult};
 ghost use Rattle.assess.specs.Assessed.{IsAssessment, IsDescribed, colour_count};
 ghost use Rattle.assess.specs.AssessedBy.{IsAssessmentBy, IsRefused};
 ghost use Rattle.assess.specs.Calls.{AreFewBy, AreFewInAll};
+ghost use Rattle.assess.specs.Grades.{IsBeyond};
 ghost use Rattle.assess.specs.Looked.{IsLooked};
 
 use crate::assessment::{Assessment, Verdict};
@@ -19,8 +20,9 @@ use picture::{Document, MAX_COLOURS, MAX_SIDE, Picture};
 use std::alloc::{AllocError, Global};
 use trail::Cell;
 
-/// Assesses a document: whether it is fit to be published. The allowance says how many splits the search of a part may make. The
-/// engine must take lines of `MAX_SIDE` cells. If memory runs out, nothing was changed but the engine's count of calls.
+/// Assesses a document: whether it is fit to be published. The allowance says how many splits the search of a part may make. A
+/// unique puzzle has no grade only if this is beyond the bounds of the search for a certificate. The engine must take lines of
+/// `MAX_SIDE` cells. If memory runs out, nothing was changed but the engine's count of calls.
 pub fn assess<E: LineEngine>(
     alloc: Global,
     engine: &mut E,
@@ -29,6 +31,10 @@ pub fn assess<E: LineEngine>(
 ) -> Result<Assessment, AllocError>
     requires { MAX_SIDE ≤ E.longest engine.old }
     ensures assessment { IfOk result (IsAssessment document.now allowance) }
+    ensures unknown { IfOk result (λ found.
+        found.verdict ≡ Verdict.Unique → found.grade ≡ None
+        → IsBeyond document.now.picture document.now.givens (E.calls engine.old)
+        (E.calls engine.new)) }
     ensures few { AreFewInAll document.now.picture document.now.givens allowance
         (E.calls engine.old) (E.calls engine.new) }
     ensures calls { E.calls engine.old ≤ E.calls engine.new }
@@ -63,6 +69,9 @@ pub fn assess_by<E: LineEngine>(
         result
         (IsAssessmentBy document.now cert.now)
         (IsRefused document.now cert.now) }
+    ensures unknown { IfOk result (λ found. found.grade ≡ None
+        → IsBeyond document.now.picture document.now.givens (E.calls engine.old)
+        (E.calls engine.new)) }
     ensures few { AreFewBy document.now.picture document.now.givens cert.now
         (E.calls engine.old) (E.calls engine.new) }
     ensures same_longest { E.longest engine.new ≡ E.longest engine.old }

@@ -1,11 +1,12 @@
 //! The grade of a puzzle with one solution.
 
-ghost use Rattle.std.specs.Prelude.{◌≡◌, ◌+◌, ◌≤◌, length, IfOk, IfSome};
+ghost use Rattle.std.specs.Prelude.{◌≡◌, ◌⊎◌, ◌+◌, ◌≤◌, None, length, IfNone, IfOk, IfSome};
 ghost use Rattle.assess.specs.Calls.{most_in_trees, most_to_grade};
-ghost use Rattle.assess.specs.Grades.{IsGradeBy, IsGraded, IsGradedIf, IsIfShort, IsShortCert};
+ghost use Rattle.assess.specs.Grades.{IsBeyond, IsGradeBy, IsGraded, IsGradedIf, IsIfShort, IsShortCert};
+ghost use Rattle.certificate.specs.MadeCert.{HasOther};
 
 use crate::assessment::Verdict;
-use cert_figures::guesses_of;
+use crate::guessing::guesses_of;
 use cert_text::Cert;
 use certificate::make_small_cert;
 use grade::{Figures, Grade};
@@ -37,6 +38,11 @@ pub(crate) fn grade_if<E: LineEngine>(
     requires { MAX_SIDE ≤ E.longest engine.old }
     ensures graded { IfOk result (λ graded. IsGradedIf document.now.picture document.now.givens
         figures verdict.now graded.cert graded.grade) }
+    ensures unknown { IfOk result (λ graded.
+        verdict.now ≡ Verdict.Unique → graded.grade ≡ None
+        → HasOther document.now.picture document.now.givens
+        ⊎ IsBeyond document.now.picture document.now.givens (E.calls engine.old)
+        (E.calls engine.new)) }
     ensures few { E.calls engine.new ≤ E.calls engine.old + most_to_grade document.now.picture }
     ensures calls { E.calls engine.old ≤ E.calls engine.new }
     ensures same_longest { E.longest engine.new ≡ E.longest engine.old }
@@ -60,7 +66,7 @@ fn no_grade() -> Graded
 }
 
 /// The grade of a unique puzzle with these figures: without a certificate where no cell is open, else by one that is made within
-/// the bounds, if one is.
+/// the bounds. There is no grade only if it is beyond these.
 pub(crate) fn grade<E: LineEngine>(
     alloc: Global,
     engine: &mut E,
@@ -70,6 +76,10 @@ pub(crate) fn grade<E: LineEngine>(
     requires { MAX_SIDE ≤ E.longest engine.old }
     ensures graded { IfOk result (λ graded. IsGraded document.now.picture document.now.givens
         figures graded.cert graded.grade) }
+    ensures unknown { IfOk result (λ graded. graded.grade ≡ None
+        → HasOther document.now.picture document.now.givens
+        ⊎ IsBeyond document.now.picture document.now.givens (E.calls engine.old)
+        (E.calls engine.new)) }
     ensures few { E.calls engine.new ≤ E.calls engine.old + most_to_grade document.now.picture }
     ensures calls { E.calls engine.old ≤ E.calls engine.new }
     ensures same_longest { E.longest engine.new ≡ E.longest engine.old }
@@ -91,7 +101,7 @@ pub(crate) fn grade<E: LineEngine>(
     })
 }
 
-// A certificate with exactly the givens, if one comes within the bounds.
+// A certificate with exactly the givens, if one comes within the bounds. None only if none does, or if there is another picture.
 fn short_cert<E: LineEngine>(
     alloc: Global,
     engine: &mut E,
@@ -100,6 +110,10 @@ fn short_cert<E: LineEngine>(
     requires { MAX_SIDE ≤ E.longest engine.old }
     ensures makes { IfOk result (λ found. IfSome found
         (IsShortCert document.now.picture document.now.givens)) }
+    ensures none { IfOk result (λ found. IfNone found
+        (HasOther document.now.picture document.now.givens
+        ⊎ IsBeyond document.now.picture document.now.givens (E.calls engine.old)
+        (E.calls engine.new))) }
     ensures few { E.calls engine.new ≤ E.calls engine.old + most_in_trees document.now.picture }
     ensures calls { E.calls engine.old ≤ E.calls engine.new }
     ensures same_longest { E.longest engine.new ≡ E.longest engine.old }

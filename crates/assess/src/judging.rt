@@ -9,12 +9,11 @@ ghost use Rattle.assess.specs.Settling.{IsMap};
 
 use crate::assessment::Verdict;
 use clues::ClueBook;
-use fixpoint::{CloseFault, settle_afresh};
+use fixpoint::{CloseFault, InOrder, settle_afresh};
 use line_facts::{Facts, LineEngine, NOTHING_DONE};
 use picture::{Document, MAX_SIDE};
 use second_search::{Judged, Keeper, Scene};
 use std::alloc::{AllocError, Global};
-use worklist::InOrder;
 
 /// Judges a puzzle by its map, each part with an allowance of splits if there is one.
 pub(crate) fn judge_map<E: LineEngine>(

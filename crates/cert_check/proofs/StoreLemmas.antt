@@ -1,5 +1,5 @@
 -- A store of lemmas when a literal is denied, a lemma is kept, or a lemma is dropped.
-use Rattle.std.proofs.Common.{◌≡◌, ℕ, zero, suc, ◌+◌, ◌-◌, ◌<◌, ◌≤◌, Bool, true, false, List, [], ◌∷◌, ◌++◌, length, get_or, set, take, drop, Option, None, Some, refl, sym, ap, subst, ◌∙◌, arith, inl}
+use Rattle.std.proofs.Common.{◌≡◌, ℕ, zero, suc, ◌+◌, ◌-◌, ◌*◌, ◌<◌, ◌≤◌, Bool, true, false, List, [], ◌∷◌, ◌++◌, length, get_or, set, take, drop, Option, None, Some, refl, sym, ap, subst, ◌∙◌, arith, inl}
 use Rattle.std.proofs.Common.{inr}
 use Rattle.std.proofs.Common.{length-append, length-drop}
 use Rattle.std.proofs.lemmas.Bool.{cases_eq, cases_lt}
@@ -9,7 +9,7 @@ use Rattle.cert_text.specs.declared.cert_line.Literal.{Literal}
 use Rattle.cert_text.specs.declared.cert_line.TheConstants.{MAX_LEMMA_LITERALS, MAX_LITERALS}
 use Rattle.cert_check.specs.declared.span.Span.{Span}
 use Rattle.cert_check.specs.Lemmas.{IsKept, Lemmas, lemma_at, literals_in, total}
-use Rattle.cert_check.specs.Stores.{EndsBefore, IsStore, if_kept, lemma_in, lemmas_in, stored}
+use Rattle.cert_check.specs.Stores.{ArePlaces, EndsBefore, IsPlace, IsStore, if_kept, lemma_in, lemmas_in, stored}
 
 abbrev span_of : ℕ → ℕ → Bool → Span
 span_of start len kept = record { start = start; len = len; kept = kept }
@@ -52,9 +52,9 @@ denied_view literals literal spans newest count is = (
   drop-append-le newest literals (literal ∷ []) is.newest_inside,
 )
 
-pub same_store : (lemmas more : Lemmas) (denied other : List Literal) (literals left spare free : ℕ) → lemmas ≡ more → denied ≡ other → literals ≡ left → spare ≡ free
-    → stored lemmas denied literals spare ≡ stored more other left free
-same_store lemmas more denied other literals left spare free a b c d = rw (a, b, c, d) refl
+pub same_store : (lemmas more : Lemmas) (denied other : List Literal) (literals left spare free height tall width wide : ℕ) → lemmas ≡ more → denied ≡ other → literals ≡ left → spare ≡ free
+    → height ≡ tall → width ≡ wide → stored lemmas denied literals spare height width ≡ stored more other left free tall wide
+same_store lemmas more denied other literals left spare free height tall width wide a b c d e f = rw (a, b, c, d, e, f) refl
 
 -- ---- a lemma is kept
 
@@ -151,3 +151,29 @@ kept_there literals spans n kept = elim (cases_lt n (length spans)) [
     length_map : (xs : List Span) → length (lemmas_in literals xs) ≡ length xs
     length_map [] = refl
     length_map (x ∷ xs) = let r = length_map xs in omega arith
+
+-- ---- places
+
+pub is_place : (height width row col : ℕ) (literal : Literal) → row ≡ literal.cell.row - 1 → col ≡ literal.cell.col - 1 → row < height → col < width → IsPlace height width literal (row * width + col)
+is_place height width row col literal r c in_rows in_columns = record {
+  in_rows = omega (arith, r);
+  in_columns = omega (arith, c);
+  at = rw (← r, ← c) refl;
+}
+
+-- a literal more, with its place
+pub more_places : (height width : ℕ) (literals : List Literal) (places : List ℕ) (literal : Literal) (place : ℕ) → ArePlaces height width literals places → IsPlace height width literal place
+    → ArePlaces height width (literals ++ literal ∷ []) (places ++ place ∷ [])
+more_places height width literals places literal place are is = record {
+  count = (let one = length-append literals (literal ∷ []) in let other = length-append places (place ∷ []) in let same = are.count in omega arith);
+  each = λ i d l. each_more literals places are.count are.each i d l;
+}
+  where
+    each_more : (ls : List Literal) (ps : List ℕ) → length ps ≡ length ls → ((i : ℕ) (d : Literal) → i < length ls → IsPlace height width (get_or ls i d) (get_or ps i 0))
+        → (i : ℕ) (d : Literal) → i < length (ls ++ literal ∷ []) → IsPlace height width (get_or (ls ++ literal ∷ []) i d) (get_or (ps ++ place ∷ []) i 0)
+    each_more [] [] e each zero d l = is
+    each_more [] [] e each (suc i) d l = absurd (omega arith)
+    each_more [] (p ∷ ps) e each i d l = cc
+    each_more (x ∷ ls) [] e each i d l = cc
+    each_more (x ∷ ls) (p ∷ ps) e each zero d l = each 0 d (omega arith)
+    each_more (x ∷ ls) (p ∷ ps) e each (suc i) d l = each_more ls ps (omega arith) (λ j f m. each (suc j) f (omega arith)) i d (omega arith)

@@ -1,8 +1,8 @@
 -- The machine: a walk, and the numbers that it keeps.
-use Rattle.std.specs.Prelude.{◌≡◌, ℕ, ◌+◌, ◌≤◌, List, [], Bool, true, false, Option, Some, None, Result, Ok, Err}
+use Rattle.std.specs.Prelude.{◌≡◌, ℕ, ◌+◌, ◌≤◌, List, [], length, Bool, true, false, Option, Some, None, Result, Ok, Err}
 use Rattle.std.specs.List.{sum_by}
 use Rattle.picture.specs.LineSet.{Lines}
-use Rattle.picture.specs.Rows.{Rows}
+use Rattle.picture.specs.Rows.{Rows, width_of}
 use Rattle.cert_text.specs.declared.fault.CertFault.{CertFault}
 use Rattle.cert_text.specs.declared.cert_line.CertLine.{CertLine}
 use Rattle.cert_text.specs.declared.cert_line.CertLine.TheVariants.{Deny, Lemma, Part}
@@ -12,8 +12,8 @@ use Rattle.cert_check.specs.Boards.{IsTallied, boarded}
 use Rattle.cert_check.specs.FirstFault.{HasFault, Moves}
 use Rattle.cert_check.specs.Walk.{Walk}
 
--- a walk; for the facts at hand and those that wait, how many cells have another colour; lines that are settled; and
--- for how many more parts, literals and lemmas there is room
+-- a walk; for the facts at hand and those that wait, how many cells have another colour; lines that are settled; for
+-- how many more parts, literals and lemmas there is room; and the size of the picture
 pub record Machined : Type 0 where
   pub walk : Walk
   pub strays : ℕ
@@ -22,9 +22,11 @@ pub record Machined : Type 0 where
   pub parts : ℕ
   pub literals : ℕ
   pub spare : ℕ
+  pub height : ℕ
+  pub width : ℕ
 
-abbrev pub machined : Walk → ℕ → List ℕ → Lines → ℕ → ℕ → ℕ → Machined
-machined walk strays waits settled parts literals spare =
+abbrev pub machined : Walk → ℕ → List ℕ → Lines → ℕ → ℕ → ℕ → ℕ → ℕ → Machined
+machined walk strays waits settled parts literals spare height width =
     record {
       walk = walk;
       strays = strays;
@@ -33,6 +35,8 @@ machined walk strays waits settled parts literals spare =
       parts = parts;
       literals = literals;
       spare = spare;
+      height = height;
+      width = width;
     }
 
 -- the numbers are right, and a lemma is being proved only where facts wait
@@ -41,6 +45,8 @@ pub record IsRight (picture : Rows) (machine : Machined) : Type 0 where
       (boarded machine.walk.at_hand machine.walk.behind machine.strays machine.waits machine.settled machine.parts)
   pub free : machine.walk.behind ≡ [] → machine.walk.stage ≡ Free
   pub none_denied : machine.walk.stage ≡ Free → machine.walk.denied ≡ []
+  pub height : machine.height ≡ length picture
+  pub width : machine.width ≡ width_of picture
 
 -- the walk if it goes on, and None if it is over
 abbrev pub reached : Bool → Walk → Option Walk

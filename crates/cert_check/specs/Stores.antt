@@ -1,22 +1,43 @@
 -- A store of lemmas: the literals of all of them in one list, and for each lemma its part of the list.
-use Rattle.std.specs.Prelude.{◌≡◌, ℕ, ◌+◌, ◌<◌, ◌≤◌, Bool, true, false, List, length, get_or, take, drop, map}
+use Rattle.std.specs.Prelude.{◌≡◌, ℕ, ◌+◌, ◌-◌, ◌*◌, ◌<◌, ◌≤◌, Bool, true, false, List, length, get_or, take, drop, map}
 use Rattle.std.specs.Prelude.{Option, None, Some}
 use Rattle.cert_text.specs.declared.cert_line.Literal.{Literal}
 use Rattle.cert_text.specs.declared.cert_line.TheConstants.{MAX_LEMMA_LITERALS, MAX_LITERALS}
 use Rattle.cert_check.specs.declared.span.Span.{Span}
 use Rattle.cert_check.specs.Lemmas.{Lemmas, total}
 
--- the lemmas that are kept, the literals of the one that is being proved, and for how many more literals and lemmas
--- there is room
+-- the lemmas that are kept, the literals of the one that is being proved, for how many more literals and lemmas there is
+-- room, and the size of the picture
 pub record Stored : Type 0 where
   pub lemmas : Lemmas
   pub denied : List Literal
   pub literals : ℕ
   pub spare : ℕ
+  pub height : ℕ
+  pub width : ℕ
 
-abbrev pub stored : Lemmas → List Literal → ℕ → ℕ → Stored
-stored lemmas denied literals spare =
-    record { lemmas = lemmas; denied = denied; literals = literals; spare = spare }
+abbrev pub stored : Lemmas → List Literal → ℕ → ℕ → ℕ → ℕ → Stored
+stored lemmas denied literals spare height width =
+    record {
+      lemmas = lemmas;
+      denied = denied;
+      literals = literals;
+      spare = spare;
+      height = height;
+      width = width;
+    }
+
+-- the literal's cell lies in a picture of this size, and has this place in the list of all cells, row after row
+pub record IsPlace (height width : ℕ) (literal : Literal) (place : ℕ) : Type 0 where
+  pub in_rows : literal.cell.row - 1 < height
+  pub in_columns : literal.cell.col - 1 < width
+  pub at : place ≡ (literal.cell.row - 1) * width + (literal.cell.col - 1)
+
+-- these are the places of these literals
+pub record ArePlaces (height width : ℕ) (literals : List Literal) (places : List ℕ) : Type 0 where
+  pub count : length places ≡ length literals
+  pub each : (i : ℕ) (d : Literal) → i < length literals
+      → IsPlace height width (get_or literals i d) (get_or places i 0)
 
 abbrev pub if_kept : Bool → List Literal → Option (List Literal)
 if_kept true literals = Some literals

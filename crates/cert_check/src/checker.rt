@@ -13,12 +13,11 @@ use crate::board::Board;
 use crate::checking::walk;
 use crate::claim::Claim;
 use crate::givens::set_givens;
-use crate::literal_engine::LiteralEngine;
 use crate::machine::Machine;
 use crate::needs::Needs;
 use crate::note::Note;
 use crate::store::Store;
-use cert_text::{Cert, CertFault, MAX_LEMMA_LITERALS};
+use cert_text::{Cert, CertFault};
 use clues::ClueBook;
 use line_facts::{Facts, LineEngine};
 use picture::Picture;
@@ -58,7 +57,8 @@ impl<'a> Model for Checker<'a> {
         × (c.notes.items ≡ [])
         × (most_notes (length c.picture.now) (width_of c.picture.now) c.parts
         ≤ vec_capacity c.notes)
-        × (c.store ≡ stored no_lemmas [] c.store.literals c.store.spare) };
+        × (c.store ≡ stored no_lemmas [] c.store.literals c.store.spare
+        (length c.picture.now) (width_of c.picture.now)) };
 }
 
 // How many notes there can be where so many parts are made.
@@ -85,19 +85,14 @@ impl<'a> Checker<'a> {
             facts: Facts::none(alloc, height, width)?,
             notes: Vec::with_capacity(alloc, notes)?,
             parts: needs.parts,
-            store: Store::new(alloc, needs.literals, needs.lemmas)?,
+            store: Store::new(alloc, height, width, needs.literals, needs.lemmas)?,
         })
     }
 
     #[tactic(auto, using(crate::proofs::Answering::answering))]
     /// Checks a certificate of the picture, as `check_cert` does. No memory can be refused: the answer is Ok exactly where the
     /// certificate is a proof, and else its first error.
-    pub fn check<E: LineEngine, L: LiteralEngine>(
-        self,
-        engine: &mut E,
-        reader: &mut L,
-        cert: &Cert,
-    ) -> Result<(), CertFault>
+    pub fn check<E: LineEngine>(self, engine: &mut E, cert: &Cert) -> Result<(), CertFault>
         requires ready { IsReady self cert.now.lines }
         requires wide { width_of self.picture ≤ E.longest engine.old }
         requires tall { length self.picture ≤ E.longest engine.old }
@@ -105,8 +100,6 @@ impl<'a> Checker<'a> {
         ensures proof { IsOk result ↔ IsLemmaProof self.entry.picture cert.now }
         ensures unique { OnOk result (IsUnique self.entry.picture cert.now.givens) }
         ensures work { E.calls engine.new ≤ E.calls engine.old + length cert.now.lines }
-        ensures looks { L.looks reader.new
-            ≤ L.looks reader.old + MAX_LEMMA_LITERALS * length cert.now.lines }
         ensures idle { (AllByRecursion (HasCellNumber self.entry.picture) cert.now.givens → ⊥)
             → E.calls engine.new ≡ E.calls engine.old }
         ensures calls { E.calls engine.old ≤ E.calls engine.new }
@@ -128,6 +121,6 @@ impl<'a> Checker<'a> {
         set_givens(picture, &mut facts, cert.givens())?;
         let board = Board::start(picture, facts, notes, parts);
         let mut machine = Machine::start(board, store);
-        walk(&mut machine, engine, reader, &claim, cert)
+        walk(&mut machine, engine, &claim, cert)
     }
 }

@@ -1,6 +1,6 @@
 //! The checker of certificates.
 
-ghost use Rattle.std.specs.Prelude.{◌≡◌, ◌≤◌, ◌<◌, ◌+◌, ◌*◌, ◌^◌, length, IfErr, OnOk, Some};
+ghost use Rattle.std.specs.Prelude.{◌≡◌, ◌≤◌, ◌<◌, ◌+◌, ◌^◌, length, IfErr, OnOk, Some};
 ghost use Rattle.std.specs.List.{AllByRecursion};
 ghost use Rattle.picture.specs.Rows.{width_of};
 ghost use Rattle.cert_text.specs.Cert.{IsOfTree, place_of};
@@ -13,20 +13,17 @@ ghost use Rattle.cert_check.specs.Walk.{CanCheck};
 
 use crate::checker::Checker;
 use crate::claim::Claim;
-use crate::literal_engine::LiteralEngine;
-use crate::look_counter::LookCounter;
 use crate::machine::Machine;
 use crate::moving::moved;
-use cert_text::{Cert, CertFault, MAX_LEMMA_LITERALS};
+use cert_text::{Cert, CertFault};
 use line_facts::LineEngine;
 use picture::Picture;
 use std::alloc::Global;
 
 // Takes the lines from where the machine stands on, and answers the first error.
-pub(crate) fn walk<E: LineEngine, L: LiteralEngine>(
+pub(crate) fn walk<E: LineEngine>(
     machine: &mut Machine,
     engine: &mut E,
-    reader: &mut L,
     claim: &Claim,
     cert: &Cert,
 ) -> Result<(), CertFault>
@@ -38,8 +35,6 @@ pub(crate) fn walk<E: LineEngine, L: LiteralEngine>(
     ensures work { E.calls engine.new ≤ E.calls engine.old + length cert.now.lines }
     ensures calls { E.calls engine.old ≤ E.calls engine.new }
     ensures same_longest { E.longest engine.new ≡ E.longest engine.old }
-    ensures looks { L.looks reader.new
-        ≤ L.looks reader.old + MAX_LEMMA_LITERALS * length cert.now.lines }
 {
     let lines = cert.lines();
     let mut going = true;
@@ -47,7 +42,7 @@ pub(crate) fn walk<E: LineEngine, L: LiteralEngine>(
         if !going {
             return Err(CertFault::Trailing(cert.place_of(i)));
         }
-        going = match machine.step(engine, reader, claim, lines[i], i) {
+        going = match machine.step(engine, claim, lines[i], i) {
             Ok(going) => going,
             Err(fault) => return Err(moved(fault, cert.place_of(i))),
         };
@@ -56,31 +51,6 @@ pub(crate) fn walk<E: LineEngine, L: LiteralEngine>(
         return Err(CertFault::Ended(cert.place_of(lines.len())));
     }
     Ok(())
-}
-
-/// Checks a certificate of a picture, as `check_cert` does, with any engine that compares the literals of lemmas with facts. So
-/// what is compared for a line of the certificate is bounded: one line of the picture, or the literals of one lemma.
-pub fn check_counting<E: LineEngine, L: LiteralEngine>(
-    alloc: Global,
-    engine: &mut E,
-    reader: &mut L,
-    picture: &Picture,
-    cert: &Cert,
-) -> Result<(), CertFault>
-    requires wide { width_of picture.now ≤ E.longest engine.old }
-    requires tall { length picture.now ≤ E.longest engine.old }
-    ensures first { AnswersFirst (CertFirstFault picture.now cert.now) result }
-    ensures work { E.calls engine.new ≤ E.calls engine.old + length cert.now.lines }
-    ensures bounded { E.calls engine.new + L.looks reader.new
-        ≤ E.calls engine.old + L.looks reader.old
-        + (MAX_LEMMA_LITERALS + 1) * length cert.now.lines }
-    ensures idle { (AllByRecursion (HasCellNumber picture.now) cert.now.givens → ⊥)
-        → E.calls engine.new ≡ E.calls engine.old }
-    ensures calls { E.calls engine.old ≤ E.calls engine.new }
-    ensures same_longest { E.longest engine.new ≡ E.longest engine.old }
-{
-    let checker = Checker::make(alloc, picture, cert)?;
-    checker.check(engine, reader, cert)
 }
 
 #[tactic(auto, using(crate::proofs::Answering::answering))]
@@ -114,6 +84,6 @@ pub fn check_cert<E: LineEngine>(
     ensures same_longest { E.longest engine.new ≡ E.longest engine.old }
 {
     let _ = picture.height();
-    let mut reader = LookCounter::new();
-    check_counting(alloc, engine, &mut reader, picture, cert)
+    let checker = Checker::make(alloc, picture, cert)?;
+    checker.check(engine, cert)
 }

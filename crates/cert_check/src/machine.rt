@@ -9,12 +9,11 @@ ghost use Rattle.cert_check.specs.Walk.{CanCheck, at_facts, next_at, settled, wa
 use crate::board::Board;
 use crate::claim::Claim;
 use crate::forcing::{force, is_dead};
-use crate::literal_engine::LiteralEngine;
-use crate::opening::{Open, cell_of};
+use crate::opening::{Open, cell_of, open_in};
 use crate::places::{cell_in, line_at};
 use crate::stage::Stage;
 use crate::store::Store;
-use cert_text::{CellNumber, CertFault, CertLine, LineNumber, Literal, MAX_LEMMA_LITERALS};
+use cert_text::{CellNumber, CertFault, CertLine, LineNumber, Literal};
 use line_facts::LineEngine;
 use std::marker::Model;
 
@@ -34,7 +33,8 @@ impl Model for Machine {
 
     ghost view = { λ m. machined
         (walk_of m.board.at_hand m.board.behind m.store.lemmas m.store.denied m.stage)
-        m.board.strays m.board.waits m.board.settled m.board.parts m.store.literals m.store.spare };
+        m.board.strays m.board.waits m.board.settled m.board.parts m.store.literals m.store.spare
+        m.store.height m.store.width };
 }
 
 impl Machine {
@@ -42,7 +42,8 @@ impl Machine {
     pub(crate) fn start(board: Board, store: Store) -> Machine
         ensures { result ≡ machined
             (walk_of board.at_hand board.behind store.lemmas store.denied Stage.Free)
-            board.strays board.waits board.settled board.parts store.literals store.spare }
+            board.strays board.waits board.settled board.parts store.literals store.spare
+            store.height store.width }
     {
         Machine {
             board,
@@ -52,10 +53,9 @@ impl Machine {
     }
 
     // Takes a line with its number, and answers whether a branch is at hand after it.
-    pub(crate) fn step<E: LineEngine, L: LiteralEngine>(
+    pub(crate) fn step<E: LineEngine>(
         &mut self,
         engine: &mut E,
-        reader: &mut L,
         claim: &Claim,
         line: CertLine,
         number: usize,
@@ -69,13 +69,12 @@ impl Machine {
         ensures calls { E.calls engine.old ≤ E.calls engine.new }
         ensures same_longest { E.longest engine.new ≡ E.longest engine.old }
         ensures work { E.calls engine.new ≤ E.calls engine.old + 1 }
-        ensures looks { L.looks reader.new ≤ L.looks reader.old + MAX_LEMMA_LITERALS }
     {
         match line {
             CertLine::Deny(literal) => self.deny(claim, literal, number),
             _ => {
                 self.settle();
-                self.settled_step(engine, reader, claim, line, number)
+                self.settled_step(engine, claim, line, number)
             }
         }
     }
@@ -89,6 +88,8 @@ impl Machine {
         ensures parts { self.new.parts ≡ self.old.parts }
         ensures literals { self.new.literals ≡ self.old.literals }
         ensures spare { self.new.spare ≡ self.old.spare }
+        ensures height { self.new.height ≡ self.old.height }
+        ensures width { self.new.width ≡ self.old.width }
     {
         if self.stage == Stage::Denying {
             self.stage = Stage::Refuting;
@@ -96,10 +97,9 @@ impl Machine {
     }
 
     // Takes any line but a `deny`, once the stage is settled.
-    fn settled_step<E: LineEngine, L: LiteralEngine>(
+    fn settled_step<E: LineEngine>(
         &mut self,
         engine: &mut E,
-        reader: &mut L,
         claim: &Claim,
         line: CertLine,
         number: usize,
@@ -112,14 +112,13 @@ impl Machine {
         ensures calls { E.calls engine.old ≤ E.calls engine.new }
         ensures same_longest { E.longest engine.new ≡ E.longest engine.old }
         ensures work { E.calls engine.new ≤ E.calls engine.old + 1 }
-        ensures looks { L.looks reader.new ≤ L.looks reader.old + MAX_LEMMA_LITERALS }
     {
         match line {
             CertLine::Line(at) => self.force_line(engine, claim, at, number),
-            CertLine::Use(lemma) => self.use_lemma(reader, claim, lemma, number),
+            CertLine::Use(lemma) => self.use_lemma(claim, lemma, number),
             CertLine::Split(at) => self.split(claim, at, number),
             CertLine::Dead(at) => self.end_line(engine, claim, at, number),
-            CertLine::Broken(lemma) => self.end_lemma(reader, claim, lemma, number),
+            CertLine::Broken(lemma) => self.end_lemma(claim, lemma, number),
             CertLine::Done => self.end_shown(claim, number),
             CertLine::Part(literal) => self.part(claim, literal, number),
             CertLine::Lemma => self.begin(claim, number),
@@ -156,24 +155,17 @@ impl Machine {
     }
 
     // The branch goes on with what the lemma says of the facts at hand.
-    fn use_lemma<L: LiteralEngine>(
-        &mut self,
-        reader: &mut L,
-        claim: &Claim,
-        lemma: u16,
-        number: usize,
-    ) -> Result<bool, CertFault>
+    fn use_lemma(&mut self, claim: &Claim, lemma: u16, number: usize) -> Result<bool, CertFault>
         requires right { IsRight claim.now.picture.now self.old }
         requires affords { Affords self.old (CertLine.Use lemma) }
         ensures spent { OnOk result (Spent self.old self.new (CertLine.Use lemma)) }
         ensures takes { Takes claim.now.picture.now self.old.walk self.new (CertLine.Use lemma)
             number result }
-        ensures looks { L.looks reader.new ≤ L.looks reader.old + MAX_LEMMA_LITERALS }
     {
-        let Some(literals) = self.store.kept(lemma) else {
+        let Some(found) = self.store.kept(lemma) else {
             return Err(CertFault::NoLemma(number));
         };
-        let open = reader.open_in(self.board.at_hand(), literals);
+        let open = open_in(self.board.at_hand(), found.literals, found.places);
         if let Open::One(literal) = open {
             self.hold_to(claim, literal);
         }
@@ -227,24 +219,17 @@ impl Machine {
     }
 
     // The branch ends, since no literal of the lemma is open.
-    fn end_lemma<L: LiteralEngine>(
-        &mut self,
-        reader: &mut L,
-        claim: &Claim,
-        lemma: u16,
-        number: usize,
-    ) -> Result<bool, CertFault>
+    fn end_lemma(&mut self, claim: &Claim, lemma: u16, number: usize) -> Result<bool, CertFault>
         requires right { IsRight claim.now.picture.now self.old }
         requires affords { Affords self.old (CertLine.Broken lemma) }
         ensures spent { OnOk result (Spent self.old self.new (CertLine.Broken lemma)) }
         ensures takes { Takes claim.now.picture.now self.old.walk self.new (CertLine.Broken lemma)
             number result }
-        ensures looks { L.looks reader.new ≤ L.looks reader.old + MAX_LEMMA_LITERALS }
     {
-        let Some(literals) = self.store.kept(lemma) else {
+        let Some(found) = self.store.kept(lemma) else {
             return Err(CertFault::NoLemma(number));
         };
-        let open = reader.open_in(self.board.at_hand(), literals);
+        let open = open_in(self.board.at_hand(), found.literals, found.places);
         match open {
             Open::Nothing => Ok(self.go_on(claim)),
             Open::One(_) | Open::More => Err(CertFault::NotDead(number)),
@@ -314,7 +299,7 @@ impl Machine {
         if !self.store.has_room() {
             return Err(CertFault::Full(number));
         }
-        self.store.deny(literal);
+        self.store.deny(literal, cell);
         let left = self.board.at_hand().left(cell.row, cell.col);
         self.board
             .hold(claim.picture, cell, left & !literal.colours);
@@ -332,7 +317,7 @@ impl Machine {
         if !self.board.is_last() {
             return Err(CertFault::Misplaced(number));
         }
-        let Some(_literals) = self.store.kept(lemma) else {
+        let Some(_found) = self.store.kept(lemma) else {
             return Err(CertFault::NoLemma(number));
         };
         self.store.forget(lemma);

@@ -4,16 +4,16 @@
 #![tactic(auto)]
 
 use anyhow::Result;
+use assess::{Guesses, guesses_of};
 use cert_check::{check_cert, check_published};
-use cert_figures::{Guesses, guesses_of};
 use cert_text::{CertFault, Form, read_cert};
-use givens_text::published_cells;
 use line_settle::MaskEngine;
 use picture::{CellSet, MAX_SIDE, Picture};
 use ppm_text::read_ppm;
 use std::alloc::Global;
 use std::fs;
 use std::rt::Files;
+use text_check::published_cells;
 
 fn main(rt: HostRuntime) -> Result<()> {
     for line in rt.lines(rt.alloc()) {

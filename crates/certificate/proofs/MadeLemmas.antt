@@ -23,7 +23,7 @@ use Rattle.cert_text.specs.declared.form.Form.TheVariants.{Tree, GivenTree, Lemm
 use Rattle.cert_text.specs.Cert.{AreOfForm, AreOrdered, Certificate, IsCert, IsOfTree, certificate}
 use Rattle.cert_check.specs.FirstFault.{CertFirstFault}
 use Rattle.cert_check.specs.TreeFault.{TreeFault}
-use Rattle.certificate.specs.MadeCert.{BasesAreOne, HasOther, IsMade, IsTreeForm, Makes, WritesTree}
+use Rattle.certificate.specs.MadeCert.{BasesAreOne, HasOther, IsMade, IsTreeForm, WritesTree}
 use Rattle.certificate.proofs.AcceptedLemmas.{tree_accepted}
 use Rattle.lemma_proof.specs.Naming.{NamesGivens}
 use Rattle.lemma_proof.proofs.MakingLemmas.{unique_has_no_other}
@@ -53,10 +53,6 @@ other_made picture start givens cells other is inside names shape e w =
       };
       differs = w.1;
     }
-
-pub none_made : (picture : Rows) (start : Masks) (givens : List ℕ) (cells : List CellNumber) → IsPicture picture → AreInside givens picture → NamesGivens picture givens cells → SameShape picture start
-    → start ≡ with_givens picture cells (nothing_excluded (length picture) (width_of picture)) → WritesTree picture start None → Makes picture givens None
-none_made picture start givens cells is inside names shape e w = (w.0, other_made picture start givens cells w.0 is inside names shape e w.1)
 
 -- ---- no other picture
 

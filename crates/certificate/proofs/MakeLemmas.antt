@@ -173,14 +173,9 @@ pub other_fills : (picture : Rows) (start : Masks) (other : Rows) (clues : Clues
     → Fills (clues_of picture) start other × (other ≡ picture → ⊥)
 other_fills picture start other clues longest can h = (rw can.clues_are at h.0, h.1)
 
-pub other_tree : (picture : Rows) (start : Masks) (other : Rows) (clues : Clues) (longest : ℕ) → CanCheck picture clues longest → IsOtherIn clues picture start other → WritesTree picture start None
-other_tree picture start other clues longest can h = (other, other_fills picture start other clues longest can h)
-
 pub can_close : CluesAreOfLines → (picture : Rows) (start : Masks) (clues : Clues) (longest : ℕ) → CanCheck picture clues longest → SameShape picture start → AreClosable clues longest start
 can_close law picture start clues longest can s =
     let rows : length clues.rows ≡ length picture = ap (λ (c : Clues). length c.rows) can.clues_are ∙ law.sizes picture Across in
     let columns : length clues.columns ≡ width_of picture = ap (λ (c : Clues). length c.columns) can.clues_are ∙ law.sizes picture Down in
     let each = s.each 0 in
     record { rows = omega arith; columns = omega arith; wide = omega arith; tall = omega arith }
-
-pub ruleset writing_trees = (whole_tree, other_tree, can_close)

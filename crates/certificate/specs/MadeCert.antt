@@ -1,6 +1,5 @@
 -- The certificates that the makers make.
 use Rattle.std.specs.Prelude.{◌≡◌, ℕ, List, [], ◌∷◌, ◌++◌, Option, None, Some}
-use Rattle.std.proofs.Common.{Vec, Global}
 use Rattle.line_facts.specs.Masks.{Masks}
 use Rattle.picture.specs.Rows.{Rows}
 use Rattle.picture.specs.CellSet.{HasCell}
@@ -45,10 +44,6 @@ EachExcludes picture [] (line ∷ lines) = Unit {0}
 EachExcludes picture (facts ∷ others) (line ∷ lines) =
     ExcludesSome picture facts line × ((next : List Masks)
     × (TreeLeads picture facts line next × EachExcludes picture (next ++ others) lines))
-
-abbrev pub lines_seen : Option (Vec CertLine Global) → Option (List CertLine)
-lines_seen None = None
-lines_seen (Some lines) = Some lines.items
 
 -- the lines of a tree that proves the picture from facts; or another picture fills these
 abbrev pub WritesTree : Rows → Masks → Option (List CertLine) → Type 0

@@ -3,74 +3,19 @@
 ghost use Rattle.std.specs.Prelude.{◌≡◌, ◌≤◌, length, IfOk, IsTrue};
 ghost use Rattle.picture.specs.Document.{AreInside};
 ghost use Rattle.picture.specs.Rows.{width_of};
-ghost use Rattle.cert_text.specs.Cert.{AreOfForm, AreOrdered, IsCert};
-ghost use Rattle.certificate.specs.MadeCert.{HasOther, IsTreeForm, Makes, WritesTree, lines_seen};
+ghost use Rattle.certificate.specs.MadeCert.{HasOther, Makes};
 ghost use Rattle.cert_check.specs.Walk.{CanCheck};
-ghost use Rattle.line_facts.specs.FactSets.{SameShape};
 ghost use Rattle.second_search.specs.Parts.{IsScene};
 
-use crate::root::root_facts;
-use cert_text::{CellNumber, Cert, CertLine, Form};
-use clues::ClueBook;
-use lemma_proof::given_cells;
+use crate::proving::Reach;
+use crate::root::Root;
+use crate::trees::{Growth, decide_by_trees};
+use cert_text::Cert;
+use lemma_proof::Made;
 use line_facts::LineEngine;
 use picture::{CellSet, Picture};
-use second_search::{BOUNDS, Bounds, Decided, Ladder, Lines, Scene, climb, find_near_other};
+use second_search::{BOUNDS, Bounds, Scene, find_near_other};
 use std::alloc::{AllocError, Global};
-
-#[tactic(auto, using(crate::proofs::MakeLemmas::writing_trees))]
-// The lines of a tree that proves the picture of a scene from its facts. None exactly where another picture fits the facts and
-// the clues. The search is guided by the known picture, and the lines are kept.
-fn write_tree<E: LineEngine>(
-    alloc: Global,
-    engine: &mut E,
-    scene: &Scene,
-    first_bound: u64,
-    judging: u64,
-) -> Result<Option<Vec<CertLine>>, AllocError>
-    requires can { CanCheck scene.now.picture.now scene.now.clues.now (E.longest engine.old) }
-    requires same_shape { SameShape scene.now.picture.now scene.now.facts.now }
-    ensures writes { IfOk result (λ lines.
-        WritesTree scene.now.picture.now scene.now.facts.now (lines_seen lines)) }
-    ensures same_longest { E.longest engine.new ≡ E.longest engine.old }
-    ensures calls { E.calls engine.old ≤ E.calls engine.new }
-{
-    let ladder = Ladder {
-        first_bound,
-        judging,
-        holds: true,
-        keeps: true,
-    };
-    match climb(alloc, engine, scene, ladder)? {
-        Decided::Tree(Lines::Kept(lines)) => Ok(Some(lines)),
-        Decided::Tree(Lines::Dropped) => unreachable!(),
-        Decided::OtherPicture(_) => Ok(None),
-    }
-}
-
-// The form of a tree with these givens.
-fn tree_form(givens: &[CellNumber]) -> Form
-    ensures { IsTreeForm result givens.now }
-{
-    if givens.is_empty() {
-        Form::Tree
-    } else {
-        Form::GivenTree
-    }
-}
-
-// The certificate with these givens and the lines of a tree.
-pub(crate) fn of_tree(alloc: Global, givens: Vec<CellNumber>, lines: Vec<CertLine>) -> Cert
-    requires givens { AreOrdered 0 givens.items }
-    requires lines { AreOfForm Form.Tree lines.items }
-    ensures cert { IsCert result }
-    ensures givens { result.givens ≡ givens.items }
-    ensures lines { result.lines ≡ lines.items }
-    ensures form { IsTreeForm result.form givens.items }
-{
-    let form = tree_form(&givens);
-    Cert::new(form, givens, lines, Vec::new(alloc))
-}
 
 // Whether another picture was found that differs only in one window. None is looked for after an earlier judgement, or where
 // windows may not split. Where the answer is false, there may be other pictures all the same.
@@ -136,21 +81,24 @@ pub fn make_cert_within<E: LineEngine>(
     ensures same_longest { E.longest engine.new ≡ E.longest engine.old }
     ensures calls { E.calls engine.old ≤ E.calls engine.new }
 {
-    let cells = given_cells(alloc, picture, givens)?;
-    let facts = root_facts(alloc, picture, givens, &cells)?;
-    let book = ClueBook::of(alloc, picture)?;
+    let root = Root::of(alloc, picture, givens)?;
     let scene = Scene {
-        clues: &book,
+        clues: &root.clues,
         givens,
-        facts: &facts,
+        facts: &root.facts,
         picture,
     };
     if has_near_other(alloc, engine, &scene, bounds.window_splits, judged)? {
         return Ok(None);
     }
-    let judging = judged.unwrap_or(0);
-    let Some(lines) = write_tree(alloc, engine, &scene, bounds.first_bound, judging)? else {
-        return Ok(None);
+    let growth = Growth {
+        bound: bounds.first_bound,
+        judging: judged.unwrap_or(0),
+        reach: Reach::Complete,
     };
-    Ok(Some(of_tree(alloc, cells, lines)))
+    match decide_by_trees(alloc, engine, &scene, &root.cells, growth)? {
+        Made::Proof(cert) => Ok(Some(cert)),
+        Made::Other(_) => Ok(None),
+        Made::Undecided => unreachable!(),
+    }
 }

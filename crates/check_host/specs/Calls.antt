@@ -1,13 +1,12 @@
 -- What a call of a host says: a status, and a text in the room that the host lends.
 use Rattle.std.specs.Prelude.{◌≡◌, ◌≢◌, ◌⊎◌, ℕ, ◌-◌, ◌==◌, List, [], ◌++◌, length, take, replicate, slice_index_or}
 use Rattle.std.specs.Prelude.{Option, None, Some, Result, Ok, Err, if◌then◌else◌}
-use Rattle.std.proofs.Common.{Vec, Global}
 use Rattle.picture.specs.declared.rgb.Rgb.{Rgb}
+use Rattle.text_check.specs.declared.check.Accepted.{Accepted}
 use Rattle.text_check.specs.declared.fault.CheckFault.{CheckFault}
 use Rattle.text_check.specs.declared.fault.CheckFault.TheVariants.{Memory}
 use Rattle.text_check.specs.Check.{IsCheckOf, IsOnlyPicture}
 use Rattle.text_check.specs.Faults.{fault_text}
-use Rattle.text_check.specs.Published.{IsOnlyPublished, IsPublishedCheckOf}
 
 -- ---- the background
 
@@ -43,8 +42,8 @@ abbrev pub Refuses : CheckFault → ℕ → List ℕ → ℕ → Type 0
 Refuses fault room out status = (status ≡ 1) × (out ≡ put (fault_text fault) room)
 
 -- what is said of the answer to a check
-abbrev pub Says : Result (Vec ℕ Global) CheckFault → ℕ → List ℕ → ℕ → Type 0
-Says (Ok text) room out status = (status ≡ 0) × (out ≡ put text.items room)
+abbrev pub Says : Result Accepted CheckFault → ℕ → List ℕ → ℕ → Type 0
+Says (Ok accepted) room out status = (status ≡ 0) × (out ≡ put accepted.line.items room)
 Says (Err fault) room out status = IsShort room out status ⊎ ((fault ≢ Memory) × Refuses fault room out status)
 
 -- ---- the checks
@@ -55,13 +54,8 @@ SaysOf Is Means room out status =
     ((status ≡ 0) × (Means × ((text : List ℕ) × (Is (Ok text) × (out ≡ put text room)))))
     ⊎ (IsShort room out status ⊎ ((fault : CheckFault) × (Is (Err fault) × Refuses fault room out status)))
 
--- The check of a certificate of a picture. Where it is accepted, no other picture has the clues and the givens.
-abbrev pub Checks : List ℕ → Option Rgb → List ℕ → ℕ → List ℕ → ℕ → Type 0
-Checks file background cert room out status =
-    SaysOf (IsCheckOf file background cert) (IsOnlyPicture file background cert) room out status
-
--- The check of a certificate of a picture whose givens are published. Where it is accepted, no other picture has the
--- clues and the colours in the published cells.
-abbrev pub ChecksPublished : List ℕ → Option Rgb → List ℕ → List ℕ → ℕ → List ℕ → ℕ → Type 0
-ChecksPublished file background givens cert room out status =
-    SaysOf (IsPublishedCheckOf file background givens cert) (IsOnlyPublished file background givens) room out status
+-- The check of a certificate of a picture, by the givens that are published, if their text is passed. Where it is
+-- accepted, no other picture has the clues and the colours in these or, without them, in the certificate's givens.
+abbrev pub Checks : List ℕ → Option Rgb → Option (List ℕ) → List ℕ → ℕ → List ℕ → ℕ → Type 0
+Checks file background givens cert room out status =
+    SaysOf (IsCheckOf file background givens cert) (IsOnlyPicture file background givens cert) room out status

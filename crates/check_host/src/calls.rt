@@ -1,7 +1,10 @@
 //! The calls that a host makes. Each puts its text in the room that the host lends, as far as it fits, and zeros behind it.
+//!
+//! A call takes memory while it reads and checks, and for its text; the checker takes all of its own before it begins
+//! (`Checker::make`). Where some is refused, the status is 4. Putting the text takes none.
 
-ghost use Rattle.std.specs.Prelude.{◌≡◌, IfSome, None, length};
-ghost use Rattle.check_host.specs.Calls.{Checks, ChecksPublished, IsUnasked, background_asked, put};
+ghost use Rattle.std.specs.Prelude.{◌≡◌, IfSome, None, Some, length, option_map};
+ghost use Rattle.check_host.specs.Calls.{Checks, IsUnasked, background_asked, put};
 ghost use Rattle.check_host.specs.Flaws.{NoFlaws, TellsFlaws, status_of};
 ghost use Rattle.check_host.specs.declared.calls.TheConstants.{VERSION};
 
@@ -10,7 +13,7 @@ use crate::flawed::flaws_of;
 use crate::said::{put, say};
 use crate::status::{DONE, MEMORY, OPTIONS, REFUSED};
 use std::alloc::Global;
-use text_check::{CheckFault, checked_text, published_text};
+use text_check::{CheckFault, check_texts};
 
 // The version of the library, as `nonobench --version` prints it after the name.
 const VERSION: &str = "0.8.0";
@@ -34,16 +37,11 @@ pub extern "C" fn nonocheck_check_any_given(
     out: &mut [u8],
 ) -> u32
     ensures checks { IfSome (background_asked background.now) (λ colour.
-        Checks file.now colour cert.now (length out.old) out.new result) }
+        Checks file.now colour None cert.now (length out.old) out.new result) }
     ensures refused { background_asked background.now ≡ None
         → IsUnasked (length out.old) out.new result }
 {
-    let Some(background) = background_of(background) else {
-        put(b"", out);
-        return OPTIONS;
-    };
-    let answer = checked_text(alloc, file, cert, background);
-    say(alloc, answer, out)
+    check_into(alloc, file, cert, None, background, out)
 }
 
 /// Checks a certificate of a picture by the text of the file of the givens that are published, which may be empty. The text is what
@@ -58,7 +56,25 @@ pub extern "C" fn nonocheck_check(
     out: &mut [u8],
 ) -> u32
     ensures checks { IfSome (background_asked background.now) (λ colour.
-        ChecksPublished file.now colour givens.now cert.now (length out.old) out.new result) }
+        Checks file.now colour (Some givens.now) cert.now (length out.old) out.new result) }
+    ensures refused { background_asked background.now ≡ None
+        → IsUnasked (length out.old) out.new result }
+{
+    check_into(alloc, file, cert, Some(givens), background, out)
+}
+
+// The two calls above, which are two since each is a function of the C library.
+fn check_into(
+    alloc: Global,
+    file: &[u8],
+    cert: &[u8],
+    givens: Option<&[u8]>,
+    background: &[u16],
+    out: &mut [u8],
+) -> u32
+    ensures checks { IfSome (background_asked background.now) (λ colour.
+        Checks file.now colour (option_map (λ text. text.now) givens.entry) cert.now
+        (length out.old) out.new result) }
     ensures refused { background_asked background.now ≡ None
         → IsUnasked (length out.old) out.new result }
 {
@@ -66,7 +82,7 @@ pub extern "C" fn nonocheck_check(
         put(b"", out);
         return OPTIONS;
     };
-    let answer = published_text(alloc, file, cert, givens, background);
+    let answer = check_texts(alloc, file, cert, givens, background);
     say(alloc, answer, out)
 }
 

@@ -6,7 +6,7 @@ ghost use Rattle.check_host.specs.Calls.{IsShort, Refuses, Says, put};
 
 use crate::status::{DONE, MEMORY, REFUSED};
 use std::alloc::Global;
-use text_check::CheckFault;
+use text_check::{Accepted, CheckFault};
 
 /// Puts as much of a text as there is room for, and zeros behind it.
 pub fn put(text: &[u8], out: &mut [u8])
@@ -17,13 +17,13 @@ pub fn put(text: &[u8], out: &mut [u8])
     out[count..].fill(0);
 }
 
-/// Puts a text, or why there is none, and returns the status.
-pub fn say(alloc: Global, answer: Result<Vec<u8>, CheckFault>, out: &mut [u8]) -> u32
+/// Puts the line of a certificate that is accepted, or why it is not, and returns the status.
+pub fn say(alloc: Global, answer: Result<Accepted, CheckFault>, out: &mut [u8]) -> u32
     ensures { Says answer (length out.old) out.new result }
 {
     match answer {
-        Ok(text) => {
-            put(&text, out);
+        Ok(accepted) => {
+            put(&accepted.line, out);
             DONE
         }
         Err(fault) => refuse(alloc, fault, out),

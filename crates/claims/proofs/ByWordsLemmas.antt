@@ -12,10 +12,8 @@ use Rattle.program_options.specs.declared.fault.ProgramFault.{ProgramFault}
 use Rattle.program_options.specs.declared.fault.ProgramFault.TheVariants.{Memory, NoCertificate, Write}
 use Rattle.program_options.specs.declared.options.Options.{Options}
 use Rattle.program_options.specs.declared.options.ProveOptions.{ProveOptions}
-use Rattle.text_check.specs.Check.{IsOnlyPicture}
-use Rattle.text_check.specs.Published.{IsPublishedProofOf}
-use Rattle.answers.specs.Check.{WritesBy}
-use Rattle.answers.specs.Published.{IsPublishedCheckOf}
+use Rattle.text_check.specs.Check.{IsLemmaProofOf, IsOnlyPicture}
+use Rattle.answers.specs.Check.{IsCheckOf, WritesBy}
 use Rattle.answers.specs.Prove.{IsProve, IsProveOf, WritesProof}
 use Rattle.command_line.specs.declared.words.Task.{Task}
 use Rattle.command_line.specs.declared.words.Task.TheVariants.{Assess, Check, Clues, Help, Prove, Work}
@@ -25,8 +23,8 @@ use Rattle.program.specs.Files.{HasFailed, Held, Holds, IsUnread}
 use Rattle.program.specs.Run.{AnswersAll}
 use Rattle.program.specs.Work.{CarriesOut}
 use Rattle.program.specs.World.{World}
-use Rattle.published.specs.Proofs.{AreVerifiedWith, ProofsAreVerified, PublishedProofsAreVerified}
-use Rattle.published.specs.Solution.{HasOneSolution}
+use Rattle.claims.specs.Proofs.{AreVerifiedWith, ProofsAreVerified, PublishedProofsAreVerified}
+use Rattle.claims.specs.Solution.{HasOneSolution}
 use Rattle.claims.specs.ByWords.{AssessedByWords, CheckedAreUnique, CompleteRunsDecide, IsDenied, IsKept, GivenProofsByWords, IsAccepting, IsHinderedWith, PairsByWords, ProofsByWords, PublishedByWords}
 use Rattle.claims.specs.Outcome.{Comes, IsDone, Opens}
 use Rattle.claims.specs.Runs.{AskOnly, Asked, AssessedAreFit, IsAssessOn, IsCheckOn, IsCheckWith, IsProveOn, IsRun, IsWorkOn, PairsAreAccepted, ProofsAreAccepted}
@@ -84,13 +82,13 @@ assessed_words arguments held status law general path paths few p all same well 
     refl refl well
 
 only_picture : (held : List ℕ → Held) (before after : World) (task : Task) (path cert_path file cert : List ℕ) → IsCheckOn path cert_path None task → held path ≡ Holds file
-    → held cert_path ≡ Holds cert → IsDone held before after task → IsOnlyPicture file None cert
+    → held cert_path ≡ Holds cert → IsDone held before after task → IsOnlyPicture file None None cert
 only_picture held before after (Check file' cert' None chosen) path cert_path file cert is first second done =
     let read : done.file ≡ file = content_is (held file'.now) file done.file (ap held is.0 ∙ first) done.content in
     let read_cert : done.cert ≡ cert = content_is (held cert'.now) cert done.cert (ap held is.1.0 ∙ second) done.cert_content in
-    let one : IsOnlyPicture file chosen done.cert = subst (λ (f : List ℕ). IsOnlyPicture f chosen done.cert) read done.only in
-    let two : IsOnlyPicture file chosen cert = subst (λ (c : List ℕ). IsOnlyPicture file chosen c) read_cert one in
-    subst (λ (k : Option Rgb). IsOnlyPicture file k cert) is.1.1 two
+    let one : IsOnlyPicture file chosen None done.cert = subst (λ (f : List ℕ). IsOnlyPicture f chosen None done.cert) read done.only in
+    let two : IsOnlyPicture file chosen None cert = subst (λ (c : List ℕ). IsOnlyPicture file chosen None c) read_cert one in
+    subst (λ (k : Option Rgb). IsOnlyPicture file k None cert) is.1.1 two
 only_picture held before after (Check file' cert' (Some givens) chosen) path cert_path file cert is first second done = absurd is
 only_picture held before after Clues path cert_path file cert is first second done = absurd is
 only_picture held before after (Work file' options) path cert_path file cert is first second done = absurd is
@@ -99,7 +97,7 @@ only_picture held before after (Assess files asked with by) path cert_path file 
 only_picture held before after (Help shown) path cert_path file cert is first second done = absurd is
 
 opened_picture : (arguments : Texts) (held : List ℕ → Held) (before after : World) (status : ℕ) (path cert_path file cert : List ℕ) → AskOnly arguments (IsCheckOn path cert_path None)
-    → held path ≡ Holds file → held cert_path ≡ Holds cert → status ≡ 0 → Opens arguments held before after status → IsOnlyPicture file None cert
+    → held path ≡ Holds file → held cert_path ≡ Holds cert → status ≡ 0 → Opens arguments held before after status → IsOnlyPicture file None None cert
 opened_picture arguments held before after status path cert_path file cert asks first second well (inl none) = absurd (none.1 well)
 opened_picture arguments held before after status path cert_path file cert asks first second well (inr (task, (asked, (count, (names, done))))) =
     only_picture held before after task path cert_path file cert (asks.task task asked) first second (done well)
@@ -278,11 +276,11 @@ module _ (file cert givens text : List ℕ) (before after : World) where
   short_with (Err f) (inr write) = inl (inr (inl write))
 
   given_ends : (r : Result (Unit {0}) ProgramFault) (chosen : Option Rgb) (seen cert_seen givens_seen : List ℕ) → seen ≡ file → cert_seen ≡ cert → givens_seen ≡ givens → chosen ≡ None
-      → before.output ≡ Some [] → after.output ≡ Some text → AreVerifiedWith file None givens cert → WritesBy before.output after.output r (IsPublishedCheckOf seen chosen givens_seen cert_seen)
-      → (IsPublishedProofOf seen chosen givens_seen cert_seen → IfErr r (λ (e : ProgramFault). (e ≡ Memory) ⊎ (e ≡ Write))) → EndsWith r
+      → before.output ≡ Some [] → after.output ≡ Some text → AreVerifiedWith file None givens cert → WritesBy before.output after.output r (IsCheckOf seen chosen (Some givens_seen) cert_seen)
+      → (IsLemmaProofOf seen chosen (Some givens_seen) cert_seen → IfErr r (λ (e : ProgramFault). (e ≡ Memory) ⊎ (e ≡ Write))) → EndsWith r
   given_ends r chosen seen cert_seen givens_seen read read_cert read_givens same none wrote accepted writes only =
-      let W : List ℕ → List ℕ → List ℕ → Option Rgb → Option (List ℕ) → Option (List ℕ) → Type 0 = λ f c g k x y. WritesBy x y r (IsPublishedCheckOf f k g c) in
-      let P : List ℕ → List ℕ → List ℕ → Option Rgb → Type 0 = λ f c g k. IsPublishedProofOf f k g c → IfErr r (λ (e : ProgramFault). (e ≡ Memory) ⊎ (e ≡ Write)) in
+      let W : List ℕ → List ℕ → List ℕ → Option Rgb → Option (List ℕ) → Option (List ℕ) → Type 0 = λ f c g k x y. WritesBy x y r (IsCheckOf f k (Some g) c) in
+      let P : List ℕ → List ℕ → List ℕ → Option Rgb → Type 0 = λ f c g k. IsLemmaProofOf f k (Some g) c → IfErr r (λ (e : ProgramFault). (e ≡ Memory) ⊎ (e ≡ Write)) in
       let w1 : W file cert_seen givens_seen chosen before.output after.output = subst (λ (f : List ℕ). W f cert_seen givens_seen chosen before.output after.output) read writes in
       let w2 : W file cert givens_seen chosen before.output after.output = subst (λ (c : List ℕ). W file c givens_seen chosen before.output after.output) read_cert w1 in
       let w3 : W file cert givens chosen before.output after.output = subst (λ (g : List ℕ). W file cert g chosen before.output after.output) read_givens w2 in
@@ -310,7 +308,7 @@ module _ (file cert givens text : List ℕ) (before after : World) where
       let read : c.file ≡ file = content_is (held file'.now) file c.file (ap held is.0 ∙ first) c.content in
       let read_cert : c.cert ≡ cert = content_is (held cert'.now) cert c.cert (ap held is.1.0 ∙ second) c.cert_content in
       let read_givens : c.givens ≡ givens = content_is (held givens'.now) givens c.givens (ap held is.1.1.0 ∙ third) c.givens_content in
-      given_ends r chosen c.file c.cert c.givens read read_cert read_givens is.1.1.1 none wrote accepted c.writes c.only
+      given_ends r chosen c.file c.cert c.givens read read_cert read_givens is.1.1.1 none wrote accepted c.writes c.only_lemmas
   given_checked held (Check file' cert' None chosen) r path cert_path givens_path first second third none wrote accepted is c = absurd is
   given_checked held Clues r path cert_path givens_path first second third none wrote accepted is c = absurd is
   given_checked held (Work file' options) r path cert_path givens_path first second third none wrote accepted is c = absurd is

@@ -11,7 +11,7 @@ use Rattle.program.specs.Assess.{HasText, text_in}
 use Rattle.program.specs.Files.{Held, Holds, IsContent}
 use Rattle.program.specs.Run.{texts}
 use Rattle.program.specs.World.{World}
-use Rattle.published.specs.Fit.{FitPuzzlesAreFit, IsFitText}
+use Rattle.claims.specs.Fit.{FitPuzzlesAreFit, IsFitText}
 use Rattle.claims.specs.Assessments.{AreFit}
 use Rattle.claims.specs.Outcome.{Comes, IsDone, Opens}
 use Rattle.claims.specs.Runs.{AskOnly, AssessedAreFit, HoldsIf, IsAssessOn}

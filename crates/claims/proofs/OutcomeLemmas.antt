@@ -6,7 +6,7 @@ use Rattle.picture.specs.Rows.{Rows}
 use Rattle.ppm_text.specs.declared.fault.PpmFault.{PpmFault}
 use Rattle.ppm_text.specs.Ppm.{ppm_of}
 use Rattle.cert_text.specs.declared.cert_line.CellNumber.{CellNumber}
-use Rattle.givens_text.specs.declared.fault.GivensFault.{GivensFault}
+use Rattle.text_check.specs.declared.givens_fault.GivensFault.{GivensFault}
 use Rattle.program_options.specs.declared.fault.ProgramFault.{ProgramFault}
 use Rattle.program_options.specs.declared.fault.ProgramFault.TheVariants as fault
 use Rattle.command_line.specs.declared.words.Task.{Task}
@@ -18,7 +18,6 @@ use Rattle.command_text.specs.declared.session_fault.SessionFault.{SessionFault}
 use Rattle.command_text.specs.declared.session_fault.SessionFault.TheVariants as session
 use Rattle.answers.specs.Check.{IsCheckOf, WritesBy}
 use Rattle.answers.specs.Prove.{IsProve, IsProveIn, IsProveOf, Proves, WritesProof, ambiguous_text, given_cells, undecided_text}
-use Rattle.answers.specs.Published.{IsPublishedCheckOf}
 use Rattle.answers.specs.Run.{Writes}
 use Rattle.program.specs.Endings.{status_after}
 use Rattle.program.specs.Files.{Held}
@@ -206,10 +205,10 @@ kept held before after (Work path options) f one (inl stopped) = inl stopped.onl
 kept held before after (Work path options) f one (inr on) = inl (worked _ _ _ _ on.file options f one on.works)
 kept held before after (Check path cert givens background) f one (inl stopped) = inl stopped.only.output
 kept held before after (Check path cert givens background) f one (inr (inl half)) = inl half.stopped.only.output
-kept held before after (Check path cert None background) f one (inr (inr checked)) = inl (kept_by _ _ f (IsCheckOf checked.file background checked.cert) one checked.writes)
+kept held before after (Check path cert None background) f one (inr (inr checked)) = inl (kept_by _ _ f (IsCheckOf checked.file background None checked.cert) one checked.writes)
 kept held before after (Check path cert (Some givens) background) f one (inr (inr (inl without))) = inl without.stopped.only.output
 kept held before after (Check path cert (Some givens) background) f one (inr (inr (inr checked))) =
-    inl (kept_by _ _ f (IsPublishedCheckOf checked.file background checked.givens checked.cert) one checked.writes)
+    inl (kept_by _ _ f (IsCheckOf checked.file background (Some checked.givens) checked.cert) one checked.writes)
 kept held before after (Prove path givens options) f one (inl stopped) = inl stopped.only.output
 kept held before after (Prove path None options) f one (inr proving) = word_kept _ _ f proving.file None options one proving.writes
 kept held before after (Prove path (Some givens) options) f one (inr (inl half)) = inl half.stopped.only.output

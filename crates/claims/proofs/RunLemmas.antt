@@ -12,7 +12,7 @@ use Rattle.cert_text.specs.Cert.{Certificate}
 use Rattle.cert_text.specs.Reading.{cert_of}
 use Rattle.picture.specs.Document.{Content}
 use Rattle.picture.specs.Rows.{Rows}
-use Rattle.givens_text.specs.declared.fault.GivensFault.{GivensFault}
+use Rattle.text_check.specs.declared.givens_fault.GivensFault.{GivensFault}
 use Rattle.ppm_text.specs.declared.fault.PpmFault.{PpmFault}
 use Rattle.ppm_text.specs.Ppm.{ppm_of}
 use Rattle.live_audit.specs.Certify.{NamesMarks}
@@ -20,14 +20,13 @@ use Rattle.session.specs.Refusal.{memory_line}
 use Rattle.session.specs.Session.{Runs}
 use Rattle.program_options.specs.declared.fault.ProgramFault.{ProgramFault}
 use Rattle.program_options.specs.declared.fault.ProgramFault.TheVariants.{Memory, Write}
+use Rattle.program_options.specs.Faults.{check_fault_of}
 use Rattle.program_options.specs.declared.options.Options.{Options}
 use Rattle.program_options.specs.declared.options.ProveOptions.{ProveOptions}
-use Rattle.text_check.specs.Check.{IsLemmaProofOf, IsProofOf, accepted_text}
+use Rattle.text_check.specs.Check.{IsLemmaProofOf, IsOnlyPicture, IsProofOf, IsShownBy, accepted_text, published_in}
 use Rattle.answers.specs.Check.{IsCheck, IsCheckOf, WritesBy}
 use Rattle.answers.specs.Prove.{IsProveOf}
 use Rattle.answers.specs.Start.{IsStarted}
-use Rattle.text_check.specs.Published.{IsOnlyPublished, cells_in}
-use Rattle.answers.specs.Published.{IsPublishedCheck, IsPublishedCheckOf, IsShownWith}
 use Rattle.command_line.specs.declared.words.Task.{Task}
 use Rattle.command_line.specs.declared.words.Task.TheVariants.{Assess, Check, Clues, Help, Prove, Work}
 use Rattle.command_text.specs.Words.{Texts}
@@ -36,10 +35,12 @@ use Rattle.program.specs.Files.{HasFailed, Held, Holds, IsContent, IsUnread, IsU
 use Rattle.program.specs.Run.{AnswersAll}
 use Rattle.program.specs.Work.{CarriesOut}
 use Rattle.program.specs.World.{IsStopped, World}
-use Rattle.published.specs.Laws.{AreAccepted, ArePublished, PairsAreAccepted as Published, background_in}
-use Rattle.published.specs.Printed.{HasWritten, OneFileIsOneDocument, StartedAreAccepted}
-use Rattle.published.specs.Proofs.{AreVerified, ProofsAreVerified}
+use Rattle.claims.specs.Laws.{AreAccepted, ArePublished, PairsAreAccepted as Published, background_in}
+use Rattle.claims.specs.Printed.{HasWritten, OneFileIsOneDocument, StartedAreAccepted}
+use Rattle.claims.specs.Proofs.{AreVerified, ProofsAreVerified}
+use Rattle.claims.specs.Solution.{IsOnlyPublished}
 use Rattle.claims.proofs.OutcomeLemmas.{fails}
+use Rattle.claims.proofs.SolutionLemmas.{only_published}
 use Rattle.claims.specs.Line.{HasLine}
 use Rattle.claims.specs.Outcome.{Comes, IsDone, Opens}
 use Rattle.claims.specs.Runs.{Accepts, AskOnly, Asked, IsCheckOn, IsCheckWith, IsHindered, IsProveOn, IsRun, IsWorkOn}
@@ -159,52 +160,58 @@ accepts a picture cert text status Line after outcome is ends =
 
 -- ---- the line of a check
 
-one_check : (a : Result Content PpmFault) (b : Result Certificate CertFault) (x y : List ℕ) → IsCheck a b (Ok x) → IsCheck a b (Ok y) → x ≡ y
-one_check (Err f) b x y p q = absurd (let e = p in cc)
-one_check (Ok d) (Err f) x y p q = absurd (let e = p in cc)
-one_check (Ok d) (Ok c) x y p q = p.1 ∙ sym q.1
+shown_once : (picture : Rows) (published : Result (Option (List CellNumber)) GivensFault) (cert : Result Certificate CertFault) (x y : List ℕ)
+    → IsShownBy check_fault_of picture published cert (Ok x) → IsShownBy check_fault_of picture published cert (Ok y) → x ≡ y
+shown_once picture (Err f) cert x y p q = absurd (let e = p in cc)
+shown_once picture (Ok published) (Err f) x y p q = absurd (let e = p in cc)
+shown_once picture (Ok published) (Ok c) x y p q = p.1 ∙ sym q.1
 
-pub one_line : (file cert : List ℕ) (background : Option Rgb) (x y : List ℕ) → IsCheckOf file background cert (Ok x) → IsCheckOf file background cert (Ok y) → x ≡ y
-one_line file cert background x y p q = one_check (ppm_of file background) (cert_of cert) x y p q
+one_check : (a : Result Content PpmFault) (givens : Option (List ℕ)) (b : Result Certificate CertFault) (x y : List ℕ) → IsCheck a givens b (Ok x) → IsCheck a givens b (Ok y) → x ≡ y
+one_check (Err f) givens b x y p q = absurd (let e = p in cc)
+one_check (Ok d) givens b x y p q = shown_once d.rows (published_in d.rows givens) b x y p q
+
+pub one_line : (file cert : List ℕ) (background : Option Rgb) (givens : Option (List ℕ)) (x y : List ℕ) → IsCheckOf file background givens cert (Ok x)
+    → IsCheckOf file background givens cert (Ok y) → x ≡ y
+one_line file cert background givens x y p q = one_check (ppm_of file background) givens (cert_of cert) x y p q
 
 -- the line that was written where a check is Ok
 pub has_line : (d : Design) (picture cert : List ℕ) (background : Option Rgb) (had has : Option (List ℕ)) (r : Result (Unit {0}) ProgramFault) (givens : List CellNumber)
-    → NamesMarks d givens → IsCheckOf picture background cert (Ok (accepted_text givens)) → WritesBy had has r (IsCheckOf picture background cert) → OnOk r (HasLine d had has)
+    → NamesMarks d givens → IsCheckOf picture background None cert (Ok (accepted_text givens)) → WritesBy had has r (IsCheckOf picture background None cert) → OnOk r (HasLine d had has)
 has_line d picture cert background had has (Err f) givens named check writes = tt
 has_line d picture cert background had has (Ok done) givens named check (bytes, (is, out)) =
-    record { givens = givens; named = named; went_out = subst (Appends had has) (one_line picture cert background bytes (accepted_text givens) is check) out }
+    record { givens = givens; named = named; went_out = subst (Appends had has) (one_line picture cert background None bytes (accepted_text givens) is check) out }
 
 -- the same where the certificate has no givens
 pub has_plain : (file cert : List ℕ) (background : Option Rgb) (had has : Option (List ℕ)) (r : Result (Unit {0}) ProgramFault)
-    → IsCheckOf file background cert (Ok (accepted_text [])) → WritesBy had has r (IsCheckOf file background cert) → OnOk r (Appends had has (accepted_text []))
+    → IsCheckOf file background None cert (Ok (accepted_text [])) → WritesBy had has r (IsCheckOf file background None cert) → OnOk r (Appends had has (accepted_text []))
 has_plain file cert background had has (Err f) check writes = tt
-has_plain file cert background had has (Ok done) check (bytes, (is, out)) = subst (Appends had has) (one_line file cert background bytes (accepted_text []) is check) out
+has_plain file cert background had has (Ok done) check (bytes, (is, out)) = subst (Appends had has) (one_line file cert background None bytes (accepted_text []) is check) out
 
 -- the line for what a bench printed
 pub printed_line : (s : Seen) (picture cert : List ℕ) (background : Rgb) (had has : Option (List ℕ)) (r : Result (Unit {0}) ProgramFault) → Published s → ArePublished s picture cert
-    → background ≡ background_in s.history.document → WritesBy had has r (IsCheckOf picture (Some background) cert) → OnOk r (HasLine s.history.document had has)
+    → background ≡ background_in s.history.document → WritesBy had has r (IsCheckOf picture (Some background) None cert) → OnOk r (HasLine s.history.document had has)
 printed_line s picture cert background had has r law p same writes =
     let accepted = law picture cert p in
-    let there : WritesBy had has r (IsCheckOf picture (Some (background_in s.history.document)) cert) = subst (λ (b : Rgb). WritesBy had has r (IsCheckOf picture (Some b) cert)) same writes in
+    let there : WritesBy had has r (IsCheckOf picture (Some (background_in s.history.document)) None cert) = subst (λ (b : Rgb). WritesBy had has r (IsCheckOf picture (Some b) None cert)) same writes in
     has_line s.history.document picture cert (Some (background_in s.history.document)) had has r accepted.found.givens accepted.givens accepted.check there
 
 -- what a bench printed is a certificate that proves the picture
 pub printed_proof : (s : Seen) (picture cert : List ℕ) (background : Rgb) → Published s → ArePublished s picture cert → background ≡ background_in s.history.document
-    → IsProofOf picture (Some background) cert
+    → IsProofOf picture (Some background) None cert
 printed_proof s picture cert background law p same =
-    subst (λ (b : Rgb). IsProofOf picture (Some b) cert) (sym same) (law picture cert p).proof
+    subst (λ (b : Rgb). IsProofOf picture (Some b) None cert) (sym same) (law picture cert p).proof
 
 -- ---- a pair
 
 pair_ends : (before after : World) (r : Result (Unit {0}) ProgramFault) (picture cert text : List ℕ) (d : Design) (chosen : Option Rgb) (file certificate : List ℕ) → file ≡ picture
     → certificate ≡ cert
     → chosen ≡ Some (background_in d) → before.output ≡ Some [] → after.output ≡ Some text → AreAccepted d picture cert
-    → WritesBy before.output after.output r (IsCheckOf file chosen certificate) → (IsProofOf file chosen certificate → IfErr r (λ (e : ProgramFault). (e ≡ Memory) ⊎ (e ≡ Write)))
+    → WritesBy before.output after.output r (IsCheckOf file chosen None certificate) → (IsProofOf file chosen None certificate → IfErr r (λ (e : ProgramFault). (e ≡ Memory) ⊎ (e ≡ Write)))
     → Ends picture cert before after (HasLine d (Some []) (Some text)) r
 pair_ends before after r picture cert text d chosen file certificate read read_cert same none wrote accepted writes only =
     let b : Option Rgb = Some (background_in d) in
-    let W : List ℕ → List ℕ → Option Rgb → Option (List ℕ) → Option (List ℕ) → Type 0 = λ f c k x y. WritesBy x y r (IsCheckOf f k c) in
-    let P : List ℕ → List ℕ → Option Rgb → Type 0 = λ f c k. IsProofOf f k c → IfErr r (λ (e : ProgramFault). (e ≡ Memory) ⊎ (e ≡ Write)) in
+    let W : List ℕ → List ℕ → Option Rgb → Option (List ℕ) → Option (List ℕ) → Type 0 = λ f c k x y. WritesBy x y r (IsCheckOf f k None c) in
+    let P : List ℕ → List ℕ → Option Rgb → Type 0 = λ f c k. IsProofOf f k None c → IfErr r (λ (e : ProgramFault). (e ≡ Memory) ⊎ (e ≡ Write)) in
     let w1 : W picture certificate chosen before.output after.output = subst (λ (f : List ℕ). W f certificate chosen before.output after.output) read writes in
     let w2 : W picture cert chosen before.output after.output = subst (λ (c : List ℕ). W picture c chosen before.output after.output) read_cert w1 in
     let w3 : W picture cert b before.output after.output = subst (λ (k : Option Rgb). W picture cert k before.output after.output) same w2 in
@@ -285,11 +292,11 @@ made_by_run held before after (Prove file' None options) path background file te
 
 plain_ends : (before after : World) (r : Result (Unit {0}) ProgramFault) (file cert text : List ℕ) (background chosen : Option Rgb) (seen cert_seen : List ℕ) → seen ≡ file → cert_seen ≡ cert
     → chosen ≡ background → before.output ≡ Some [] → after.output ≡ Some text → AreVerified file background cert
-    → WritesBy before.output after.output r (IsCheckOf seen chosen cert_seen) → (IsLemmaProofOf seen chosen cert_seen → IfErr r (λ (e : ProgramFault). (e ≡ Memory) ⊎ (e ≡ Write)))
+    → WritesBy before.output after.output r (IsCheckOf seen chosen None cert_seen) → (IsLemmaProofOf seen chosen None cert_seen → IfErr r (λ (e : ProgramFault). (e ≡ Memory) ⊎ (e ≡ Write)))
     → Ends file cert before after (text ≡ codes "certificate accepted\n") r
 plain_ends before after r file cert text background chosen seen cert_seen read read_cert same none wrote accepted writes only =
-    let W : List ℕ → List ℕ → Option Rgb → Option (List ℕ) → Option (List ℕ) → Type 0 = λ f c k x y. WritesBy x y r (IsCheckOf f k c) in
-    let P : List ℕ → List ℕ → Option Rgb → Type 0 = λ f c k. IsLemmaProofOf f k c → IfErr r (λ (e : ProgramFault). (e ≡ Memory) ⊎ (e ≡ Write)) in
+    let W : List ℕ → List ℕ → Option Rgb → Option (List ℕ) → Option (List ℕ) → Type 0 = λ f c k x y. WritesBy x y r (IsCheckOf f k None c) in
+    let P : List ℕ → List ℕ → Option Rgb → Type 0 = λ f c k. IsLemmaProofOf f k None c → IfErr r (λ (e : ProgramFault). (e ≡ Memory) ⊎ (e ≡ Write)) in
     let w1 : W file cert_seen chosen before.output after.output = subst (λ (f : List ℕ). W f cert_seen chosen before.output after.output) read writes in
     let w2 : W file cert chosen before.output after.output = subst (λ (c : List ℕ). W file c chosen before.output after.output) read_cert w1 in
     let w3 : W file cert background before.output after.output = subst (λ (k : Option Rgb). W file cert k before.output after.output) same w2 in
@@ -335,22 +342,12 @@ proofs proving checking cert text proved status law prove check p =
     accepts checking p.file cert text status (text ≡ codes "certificate accepted\n") check.after check.outcome check.right_status ends
 
 -- the line of a check with published givens
-one_published : (a : Result Content PpmFault) (givens : List ℕ) (b : Result Certificate CertFault) (x y : List ℕ) → IsPublishedCheck a givens b (Ok x) → IsPublishedCheck a givens b (Ok y) → x ≡ y
-one_published (Err f) givens b x y p q = absurd (let e = p in cc)
-one_published (Ok d) givens b x y p q = in_cells d.rows (cells_in d givens) b x y p q
-  where
-    in_cells : (picture : Rows) (cells : Result (List CellNumber) GivensFault) (c : Result Certificate CertFault) (v w : List ℕ) → IsShownWith picture cells c (Ok v)
-        → IsShownWith picture cells c (Ok w) → v ≡ w
-    in_cells picture (Err f) c v w p q = absurd (let e = p in cc)
-    in_cells picture (Ok cells) (Err f) v w p q = absurd (let e = p in cc)
-    in_cells picture (Ok cells) (Ok c) v w p q = p.1 ∙ sym q.1
-
 pub has_published : (file givens cert : List ℕ) (background : Option Rgb) (named : List CellNumber) (had has : Option (List ℕ)) (r : Result (Unit {0}) ProgramFault)
-    → IsPublishedCheckOf file background givens cert (Ok (accepted_text named)) → WritesBy had has r (IsPublishedCheckOf file background givens cert)
+    → IsCheckOf file background (Some givens) cert (Ok (accepted_text named)) → WritesBy had has r (IsCheckOf file background (Some givens) cert)
     → OnOk r ((cells : List CellNumber) × Appends had has (accepted_text cells))
 has_published file givens cert background named had has (Err f) check writes = tt
 has_published file givens cert background named had has (Ok done) check (bytes, (is, out)) =
-    (named, subst (Appends had has) (one_published (ppm_of file background) givens (cert_of cert) bytes (accepted_text named) is check) out)
+    (named, subst (Appends had has) (one_line file cert background (Some givens) bytes (accepted_text named) is check) out)
 
 -- ---- a check with the givens that are published
 
@@ -365,9 +362,9 @@ only_task held before after (Help shown) path cert_path givens_path background f
 only_task held before after (Check file' cert' (Some givens') chosen) path cert_path givens_path background file givens is first last done =
     let read : done.file ≡ file = content_is (held file'.now) file done.file (ap held is.0 ∙ first) done.content in
     let read_givens : done.givens ≡ givens = content_is (held givens'.now) givens done.givens (ap held is.1.1.0 ∙ last) done.givens_content in
-    let one : IsOnlyPublished file chosen done.givens = subst (λ (f : List ℕ). IsOnlyPublished f chosen done.givens) read done.only in
-    let two : IsOnlyPublished file chosen givens = subst (λ (g : List ℕ). IsOnlyPublished file chosen g) read_givens one in
-    subst (λ (k : Option Rgb). IsOnlyPublished file k givens) is.1.1.1 two
+    let one : IsOnlyPicture file chosen (Some done.givens) done.cert = subst (λ (f : List ℕ). IsOnlyPicture f chosen (Some done.givens) done.cert) read done.only in
+    let two : IsOnlyPicture file chosen (Some givens) done.cert = subst (λ (g : List ℕ). IsOnlyPicture file chosen (Some g) done.cert) read_givens one in
+    only_published file background givens done.cert (subst (λ (k : Option Rgb). IsOnlyPicture file k (Some givens) done.cert) is.1.1.1 two)
 
 opened_unique : (arguments : Texts) (held : List ℕ → Held) (before after : World) (status : ℕ) (path cert_path givens_path : List ℕ) (background : Option Rgb) (file givens : List ℕ)
     → AskOnly arguments (IsCheckWith path cert_path givens_path background) → held path ≡ Holds file → held givens_path ≡ Holds givens → status ≡ 0 → Opens arguments held before after status

@@ -14,7 +14,6 @@ use Rattle.program_options.specs.Background.{background_of}
 use Rattle.program_options.specs.declared.fault.ProgramFault.{ProgramFault}
 use Rattle.program_options.specs.declared.fault.ProgramFault.TheVariants.{Memory, NoCertificate, Read, TooLong, Write}
 use Rattle.text_check.specs.Check.{IsOnlyPicture, accepted_text}
-use Rattle.text_check.specs.Published.{IsOnlyPublished}
 use Rattle.answers.specs.Open.{OpensFile}
 use Rattle.answers.specs.Prove.{HasAnother, ambiguous_text}
 use Rattle.command_line.specs.Laws.{IsPlain, default_assessment, default_options}
@@ -22,9 +21,9 @@ use Rattle.command_text.specs.Words.{Texts}
 use Rattle.program.specs.Endings.{status_after}
 use Rattle.program.specs.Files.{Held, Holds}
 use Rattle.program.specs.World.{World}
-use Rattle.published.specs.Fit.{IsFitText}
-use Rattle.published.specs.Laws.{background_in}
-use Rattle.published.specs.Solution.{HasOneSolution}
+use Rattle.claims.specs.Fit.{IsFitText}
+use Rattle.claims.specs.Laws.{background_in}
+use Rattle.claims.specs.Solution.{HasOneSolution, IsOnlyPublished}
 use Rattle.claims.specs.Line.{HasLine}
 use Rattle.claims.specs.Runs.{Accepts, Asked, IsHindered, before_run}
 
@@ -61,7 +60,7 @@ abbrev pub CheckedAreUnique : Texts → (List ℕ → Held) → ℕ → Type 0
 CheckedAreUnique arguments held status =
     (path cert_path file cert : List ℕ) → IsPlain path → IsPlain cert_path
     → arguments ≡ check_words path cert_path → held path ≡ Holds file → held cert_path ≡ Holds cert → status ≡ 0
-    → IsOnlyPicture file None cert
+    → IsOnlyPicture file None None cert
 
 -- with status 0, no other picture of that size has the clues of the picture and its colours in the published cells
 abbrev pub PublishedByWords : Texts → (List ℕ → Held) → ℕ → Type 0

@@ -1,8 +1,16 @@
 pub mod Assessments
 pub mod ByWords
+pub mod Fit
+pub mod Laws
 pub mod Line
+pub mod MaximalRuns
 pub mod Outcome
+pub mod Placement
+pub mod Printed
+pub mod Proofs
 pub mod Runs
 pub mod Session
+pub mod Solution
 pub mod Step
+pub mod Told
 pub mod Work

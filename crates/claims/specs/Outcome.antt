@@ -12,8 +12,6 @@ use Rattle.program_options.specs.declared.options.ProveOptions.{ProveOptions}
 use Rattle.text_check.specs.Check.{IsOnlyPicture}
 use Rattle.answers.specs.Check.{IsCheckOf}
 use Rattle.answers.specs.Prove.{IsProveOf, ambiguous_text, undecided_text}
-use Rattle.text_check.specs.Published.{IsOnlyPublished}
-use Rattle.answers.specs.Published.{IsPublishedCheckOf}
 use Rattle.answers.specs.Run.{shown}
 use Rattle.answers.specs.Start.{IsStarted}
 use Rattle.command_line.specs.declared.words.Task.{Task}
@@ -63,9 +61,9 @@ pub record HasChecked (picture certificate : Held) (background : Option Rgb) (be
   pub content : IsContent picture file
   pub cert : List ℕ
   pub cert_content : IsContent certificate cert
-  pub only : IsOnlyPicture file background cert
+  pub only : IsOnlyPicture file background None cert
   pub line : List ℕ
-  pub shows : IsCheckOf file background cert (Ok line)
+  pub shows : IsCheckOf file background None cert (Ok line)
   pub went_out : Appends before.output after.output line
 
 -- no other picture of that size has the clues of the picture in the first file and its colours
@@ -78,9 +76,9 @@ pub record HasCheckedWith (picture certificate published : Held) (background : O
   pub cert_content : IsContent certificate cert
   pub givens : List ℕ
   pub givens_content : IsContent published givens
-  pub only : IsOnlyPublished file background givens
+  pub only : IsOnlyPicture file background (Some givens) cert
   pub line : List ℕ
-  pub shows : IsPublishedCheckOf file background givens cert (Ok line)
+  pub shows : IsCheckOf file background (Some givens) cert (Ok line)
   pub went_out : Appends before.output after.output line
 
 -- a certificate for the picture in the file was written

@@ -11,7 +11,6 @@ use Rattle.program_options.specs.declared.fault.ProgramFault.TheVariants.{Memory
 use Rattle.program_options.specs.declared.assessing.AssessOptions.{AssessOptions}
 use Rattle.program_options.specs.declared.options.Options.{Options}
 use Rattle.answers.specs.Open.{OpensFile}
-use Rattle.text_check.specs.Published.{IsOnlyPublished}
 use Rattle.command_line.specs.declared.words.Task.{Task}
 use Rattle.command_line.specs.declared.words.Task.TheVariants.{Assess, Check, Prove, Work}
 use Rattle.command_text.specs.Words.{Texts}
@@ -19,9 +18,10 @@ use Rattle.program.specs.Endings.{status_after}
 use Rattle.program.specs.Files.{Held, Holds}
 use Rattle.program.specs.Run.{AnswersAll, IsTask, texts}
 use Rattle.program.specs.World.{World, world}
-use Rattle.published.specs.Fit.{IsFitText}
-use Rattle.published.specs.Laws.{background_in}
+use Rattle.claims.specs.Fit.{IsFitText}
+use Rattle.claims.specs.Laws.{background_in}
 use Rattle.claims.specs.Line.{HasLine}
+use Rattle.claims.specs.Solution.{IsOnlyPublished}
 
 -- what a run is asked: its arguments, what names hold, and what was asked of the files before
 pub record Asked : Type 0 where

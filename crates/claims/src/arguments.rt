@@ -10,9 +10,9 @@ ghost use Rattle.claims.specs.Runs.{AssessedAreFit, PublishedAreUnique};
 ghost use Rattle.program.specs.Run.{IsTask};
 ghost use Rattle.program.specs.World.{world};
 
+use crate::laws::fit_puzzles_are_fit;
 use command_line::laws::words_are_known;
 use program::{Ended, Files, run};
-use published::laws::fit_puzzles_are_fit;
 use session::laws::sessions_are_true;
 use std::alloc::Global;
 use std::io::{Read, Write};

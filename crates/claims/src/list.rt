@@ -3,7 +3,7 @@
 ghost use Rattle.std.specs.Prelude.{◌≡◌, ℕ, List, true, false, Some, Ok, OnOk};
 ghost use Rattle.clues.specs.ClueBook.{clues_of};
 ghost use Rattle.edits.specs.Edit.{edited};
-ghost use Rattle.kept_audit.specs.Audit.{AreGivens};
+ghost use Rattle.live_audit.specs.Audit.{AreGivens};
 ghost use Rattle.line_facts.specs.FactSets.{IsLeast};
 ghost use Rattle.live_audit.specs.Verdict.{IsOtherFor};
 

@@ -5,19 +5,18 @@ ghost use Rattle.std.specs.Io.KnownBytes.{Appends};
 ghost use Rattle.text_check.specs.Check.{accepted_text};
 ghost use Rattle.answers.specs.Check.{IsCheckOf, WritesBy};
 ghost use Rattle.answers.specs.Prove.{IsProveOf};
-ghost use Rattle.answers.specs.Published.{IsPublishedCheckOf};
 ghost use Rattle.claims.specs.Line.{HasLine};
 ghost use Rattle.program_options.specs.declared.fault.ProgramFault.TheVariants.{Memory, Write as Unwritten};
-ghost use Rattle.published.specs.Laws.{ArePublished, background_in};
+ghost use Rattle.claims.specs.Laws.{ArePublished, background_in};
 
-use answers::{ProgramFault, ProveOptions, run_check, run_check_published};
+use crate::laws::{
+    proofs_are_verified, published_pairs_are_accepted, published_proofs_are_verified,
+};
+use answers::{ProgramFault, ProveOptions, run_check};
 use line_facts::LineEngine;
 use live_audit::Bench;
 use picture::Rgb;
 use propagate::Agenda;
-use published::laws::{
-    proofs_are_verified, published_pairs_are_accepted, published_proofs_are_verified,
-};
 use std::alloc::Global;
 use std::io::Write;
 
@@ -34,12 +33,12 @@ pub fn check_printed<E: LineEngine + Drop, A: Agenda + Drop, W: Write>(
     requires background { background ≡ background_in bench.now.history.document }
     ensures fails { IfErr result (λ e. (e ≡ Memory) ⊎ (e ≡ Unwritten)) }
     ensures writes { WritesBy (W.contents writer.old) (W.contents writer.new) result
-        (IsCheckOf printed.entry.0.now (Some background) printed.entry.1.now) }
+        (IsCheckOf printed.entry.0.now (Some background) None printed.entry.1.now) }
     ensures line { OnOk result (HasLine bench.now.history.document
         (W.contents writer.old) (W.contents writer.new)) }
 {
     published_pairs_are_accepted(bench);
-    run_check(alloc, printed.0, printed.1, Some(background), writer)
+    run_check(alloc, printed.0, printed.1, None, Some(background), writer)
 }
 
 /// Checks a certificate that `prove` printed for a file, in any form, with the same background: it is accepted, with the line
@@ -54,12 +53,12 @@ pub fn verify_printed<W: Write>(
     requires { IsProveOf file.now None options (Ok (cert.now, true)) }
     ensures fails { IfErr result (λ e. (e ≡ Memory) ⊎ (e ≡ Unwritten)) }
     ensures writes { WritesBy (W.contents writer.old) (W.contents writer.new) result
-        (IsCheckOf file.now options.background cert.now) }
+        (IsCheckOf file.now options.background None cert.now) }
     ensures line { OnOk result (Appends (W.contents writer.old) (W.contents writer.new)
         (codes "certificate accepted\n")) }
 {
     proofs_are_verified();
-    run_check(alloc, file, cert, options.background, writer)
+    run_check(alloc, file, cert, None, options.background, writer)
 }
 
 /// Checks a certificate that `prove` printed for a file and a file of published givens, with these and the same background: it
@@ -75,10 +74,10 @@ pub fn verify_published<W: Write>(
     requires { IsProveOf file.now (Some givens.now) options (Ok (cert.now, true)) }
     ensures fails { IfErr result (λ e. (e ≡ Memory) ⊎ (e ≡ Unwritten)) }
     ensures writes { WritesBy (W.contents writer.old) (W.contents writer.new) result
-        (IsPublishedCheckOf file.now options.background givens.now cert.now) }
+        (IsCheckOf file.now options.background (Some givens.now) cert.now) }
     ensures line { OnOk result ((cells : _)
         × Appends (W.contents writer.old) (W.contents writer.new) (accepted_text cells)) }
 {
     published_proofs_are_verified();
-    run_check_published(alloc, file, cert, givens, options.background, writer)
+    run_check(alloc, file, cert, Some(givens), options.background, writer)
 }

@@ -4,12 +4,12 @@ ghost use Rattle.std.specs.Process.{exit_status};
 ghost use Rattle.claims.specs.ByWords.{CompleteRunsDecide, GivenProofsByWords, PairsByWords, ProofsByWords};
 ghost use Rattle.claims.specs.Runs.{IsRun, PairsAreAccepted, ProofsAreAccepted, asked_of};
 
-use command_line::laws::words_are_known;
-use program::{Files, run};
-use published::laws::{
+use crate::laws::{
     one_file_is_one_document, proofs_are_verified, published_proofs_are_verified,
     started_prints_are_accepted,
 };
+use command_line::laws::words_are_known;
+use program::{Files, run};
 use std::alloc::Global;
 use std::process::ExitCode;
 

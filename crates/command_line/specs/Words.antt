@@ -23,9 +23,10 @@ use Rattle.command_line.specs.Program.{AreFormats, Formats, program_app}
 use Rattle.command_line.specs.declared.words.Task.{Task}
 use Rattle.command_line.specs.declared.words.Task.TheVariants.{Work, Check, Prove, Assess, Help}
 
--- the options of a session are lawful
+-- the options of a session are lawful, and a background is given only with P3 texts
 abbrev pub IsLawfulTask : Task → Type 0
 IsLawfulTask (Work file options) = IsLawful options
+IsLawfulTask (Assess files options givens cert) = options.non ≡ true → options.background ≡ None
 IsLawfulTask _ = Unit {0}
 
 -- ---- the values of a subcommand

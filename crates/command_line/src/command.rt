@@ -46,14 +46,16 @@ fn command<'a>(alloc: Global) -> Result<Command<'a>, AllocError>
     command.subcommand(assess)
 }
 
+// What help says of the program.
+const ABOUT: &str =
+    "Design multicolour nonograms with one solution. Without a command, print the clues of a picture.";
+
 fn named<'a>(alloc: Global) -> Result<Command<'a>, AllocError>
     ensures app { IfOk result (λ c. app_of c ≡ record { top = top_shape; subs = [] }) }
     ensures local { IfOk result IsLocal }
 {
     let command = Command::new(alloc, "nonobench")
-        .about(
-            "Multicolour nonograms. With no command: the clues of the picture on standard input.",
-        )
+        .about(ABOUT)
         .version(VERSION)
         .bin_name("nonobench")?
         .no_binary_name(true)
@@ -84,7 +86,7 @@ fn file_command<'a>(alloc: Global) -> Result<Command<'a>, AllocError>
     ensures local { IfOk result IsLocal }
 {
     Command::new(alloc, "work")
-        .about("Opens a picture or a puzzle, and answers each line of standard input")
+        .about("Open a picture or a puzzle, and answer commands from standard input, one per line")
         .after_help("Example: echo verdict | nonobench work heart.ppm")
         .arg(word(
             alloc,
@@ -95,16 +97,17 @@ fn file_command<'a>(alloc: Global) -> Result<Command<'a>, AllocError>
 }
 
 // What help says of the command `check`.
-const CHECK: &str = "Checks a certificate: whether the picture is the only one with its clues";
+const CHECK: &str = "Check a certificate that no other picture has the same clues";
 
 // What help says of the file of givens: of a check, of a certificate that is made, and of an assessment.
 const CHECK_GIVENS: &str =
-    "A file of the published givens, as lines 'given R C': CERT may name no others";
+    "File of the published givens, a line 'given R C' for each; CERT may name no others";
 
 const PROVE_GIVENS: &str =
-    "A file of the published givens, as lines 'given R C': the certificate names all of them";
+    "File of the published givens, a line 'given R C' for each; the certificate names exactly these";
 
-const ASSESS_GIVENS: &str = "A file of the published givens, as lines 'given R C', with one FILE";
+const ASSESS_GIVENS: &str =
+    "File of the published givens, a line 'given R C' for each; only with one FILE";
 
 // The command that checks a certificate, under a name.
 fn check_command<'a>(
@@ -157,7 +160,7 @@ fn proving<'a>(alloc: Global) -> Result<Command<'a>, AllocError>
     ensures local { IfOk result IsLocal }
 {
     Command::new(alloc, "prove")
-        .about("Prints a certificate that the picture is the only one with its clues")
+        .about("Print a certificate that no other picture has the same clues")
         .after_help("Example: nonobench prove heart.ppm > heart.ppm.cert")
         .arg(word(alloc, "file", "FILE", "The picture, in plain PPM (P3)"))?
         .arg(background(alloc))
@@ -198,7 +201,7 @@ fn puzzles_command<'a>(alloc: Global) -> Result<Command<'a>, AllocError>
     ensures local { IfOk result IsLocal }
 {
     Command::new(alloc, "assess")
-        .about("Says whether puzzles are fit to be published, and how hard they are")
+        .about("Say whether puzzles are fit to be published, and how hard they are")
         .after_help("Example: nonobench assess heart.ppm")
         .arg(files(alloc))
 }
@@ -261,7 +264,7 @@ fn history<'a>(alloc: Global) -> Arg<'a>
         .value_name("N")
         .value_parser(value_parser!(u16).range(1..=1000))
         .default_value("100")
-        .help("How many edits can be undone, 1 to 1000")
+        .help("How many edits can be undone, from 1 to 1000")
 }
 
 fn allow<'a>(alloc: Global) -> Arg<'a>
@@ -269,7 +272,7 @@ fn allow<'a>(alloc: Global) -> Arg<'a>
     ensures local { result.global ≡ false }
 {
     Arg::new(alloc, "allow").long("allow").value_name("N").help(
-        "How many splits the search of a part may make, 0 to 99999, or off; 10000 if it is not given",
+        "Limit on the guesses (splits) in each part: 0 to 99999, or off; 10000 by default",
     )
 }
 
@@ -280,7 +283,7 @@ fn certificate<'a>(alloc: Global) -> Arg<'a>
     Arg::new(alloc, "certificate")
         .long("certificate")
         .value_name("CERT")
-        .help("A certificate to use instead of a search, with one FILE")
+        .help("Certificate to check instead of searching; only with one FILE")
 }
 
 fn givens<'a>(alloc: Global, help: &'a str) -> Arg<'a>
@@ -300,7 +303,7 @@ fn complete<'a>(alloc: Global) -> Arg<'a>
     Arg::new(alloc, "complete")
         .long("complete")
         .action(ArgAction::SetTrue)
-        .help("Search without bounds, until it is decided")
+        .help("Search without limits, until the answer is known")
 }
 
 fn background<'a>(alloc: Global) -> Arg<'a>
@@ -310,5 +313,5 @@ fn background<'a>(alloc: Global) -> Arg<'a>
     Arg::new(alloc, "background")
         .long("background")
         .value_name("R,G,B")
-        .help("The background colour of a plain PPM picture; without it, white")
+        .help("The background colour of a plain PPM picture; white by default")
 }

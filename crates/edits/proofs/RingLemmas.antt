@@ -17,7 +17,7 @@ use Rattle.edits.specs.Edit.{edited}
 use Rattle.edits.specs.Note.{IsStep, note_for, note_of, reverted}
 use Rattle.edits.specs.Prepared.{advance_of}
 use Rattle.edits.specs.History.{Turn, turn, History, history, past_from, future_from, ArePast, AreFuture, after_undo, undone, redone, undo_fault, redo_fault}
-use Rattle.edits.specs.History.{IsPlanFor, Advance, ByEdit, ByUndo, ByRedo, Plan, plan, advanced}
+use Rattle.edits.specs.History.{IsPlanFor, ByEdit, ByUndo, ByRedo, plan, advanced}
 use Rattle.edits.specs.Studio.{AreRings, notes_of, history_from, with_first, with_last, past_after, future_after}
 use Rattle.edits.proofs.HistoryLemmas.{split_last, take_front, last_of, length-future_from, length-past_from, step_entry, entry_step, past_from-last, past_from-push, past_from-drop, ArePast-push}
 use Rattle.edits.proofs.HistoryLemmas.{ArePast-drop, ArePast-pop}
@@ -216,10 +216,6 @@ last_turn_is d es x last = ap last_item (past_split d es x last) ∙ last_of (pa
 
 pub first_turn_is : (d : Design) (es : List Entry) (x : Entry) → slice_get es 0 ≡ Some x → slice_get (future_from d (notes_of es)) 0 ≡ Some (turn (edited d x.edit) x.edit)
 first_turn_is d es x first = ap (λ (turns : List Turn). slice_get turns 0) (future_split d es x first)
-
--- a plan from its parts
-pub plan_is : (p : Plan) (a : Advance) (d : Design) → p.advance ≡ a → p.document ≡ d → plan a d p.change ≡ p
-plan_is p a d advances gives = sym (ap (λ (b : Advance). plan b p.document p.change) advances ∙ ap (λ (e : Design). plan a e p.change) gives)
 
 -- what is kept of the last edit
 pub last_note : (d : Design) (es : List Entry) → ArePast d (notes_of es)

@@ -95,12 +95,6 @@ pub record Plan : Type 0 where
 abbrev pub plan : Advance → Design → Changes → Plan
 plan advance document change = record { advance = advance; document = document; change = change }
 
--- the plan takes this step from one document to the other, with these moves of lines
-pub record IsMade (advance : Advance) (moves : Moves) (old new : Design) (p : Plan) : Type 0 where
-  pub advances : p.advance ≡ advance
-  pub gives : p.document ≡ new
-  pub change : IsChangeBy moves old.rows p.document.rows p.change
-
 -- the plan is one for this very state of the history
 pub record IsPlanFor (h : History) (p : Plan) : Type 0 where
   pub lawful : advance_fault h p.advance ≡ None

@@ -77,6 +77,6 @@ pub(crate) fn is_given(document: &Document, row: u8, col: u8) -> bool
     requires in_columns { col < width_of document.now.picture }
     ensures { IsTrue result ↔ (cell_at (design_of document.now).marks row col ≡ 1) }
 {
-    let _ = document.picture.height();
+    know(document);
     document.givens.has(row, col)
 }

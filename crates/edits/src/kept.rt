@@ -8,6 +8,7 @@ ghost use Rattle.edits.specs.Note.{cells_kept, cells_of_line, givens_kept, given
 
 use crate::cells::Cell;
 use crate::edit::Edit;
+use crate::facts::know;
 use crate::idle::is_given;
 use crate::painting::changed_cells;
 use crate::places::{line_length, place_on};
@@ -75,7 +76,7 @@ fn givens_of_line(alloc: Global, document: &Document, line: LineId) -> Result<Gi
     ensures { IfOk result (λ givens.
         givens.items ≡ givens_of_line (design_of document.now).marks line) }
 {
-    let _ = document.picture.height();
+    know(document);
     let mut givens = Vec::new(alloc);
     for position in 0..line_length(&document.picture, line.axis) {
         let (row, col) = place_on(line.axis, line.at, position);

@@ -20,6 +20,7 @@ mod studio;
 
 pub use edit::Edit;
 pub use entry::Entry;
+pub use facts::know;
 pub use fault::EditFault;
 pub use prepared::Prepared;
 pub use studio::{MAX_DEPTH, Studio};

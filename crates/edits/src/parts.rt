@@ -13,6 +13,7 @@ ghost use Rattle.edits.specs.Note.{IsCellIn, IsPlaceIn, as_mark, repainted, with
 
 use crate::cells::{Cell, paint_cells, put_cells, put_givens};
 use crate::edit::Edit;
+use crate::facts::know;
 use crate::moving::moved_givens;
 use clues::Change;
 use picture::{Axis, Document, LineId, MAX_SIDE, Picture, Rgb};
@@ -207,7 +208,7 @@ pub fn restored(
         (with_cells (line_inserted (design_of document.now).marks line) (map as_mark givens.now))) }
 {
     let blank = inserted(document, line)?;
-    let _ = blank.picture.height();
+    know(&blank);
     let Document {
         palette,
         mut picture,

@@ -15,7 +15,7 @@ use crate::edit::Edit;
 use crate::entry::Entry;
 use crate::facts::know;
 use crate::fault::EditFault;
-use crate::prepared::{Prepared, Step, edit_of, redo_of, undo_of};
+use crate::prepared::{Prepared, Step};
 use circular_buffer::HeapCircularBuffer;
 use picture::Document;
 use std::alloc::{AllocError, Global};
@@ -101,7 +101,17 @@ impl Studio {
         ensures exact { IfOk result
             (λ p. IsChangeOf p.change self.now.document.rows p.document.rows) }
     {
-        edit_of(alloc, &self.document, edit)
+        if let Some(fault) = edit.refusal(&self.document) {
+            return Err(fault);
+        }
+        let entry = Entry::of(alloc, &self.document, edit)?;
+        let document = entry.apply(&self.document)?;
+        let change = entry.change(&self.document, &document);
+        Ok(Prepared {
+            document,
+            step: Step::Edit(entry),
+            change,
+        })
     }
 
     /// Prepares to undo the last edit, or answers `UndoEmpty` where there is none. The studio stays as it is.
@@ -118,7 +128,13 @@ impl Studio {
             (λ p. IsChangeOf p.change self.now.document.rows p.document.rows) }
     {
         let entry = self.past.back().ok_or(EditFault::UndoEmpty)?;
-        Ok(undo_of(&self.document, entry)?)
+        let document = entry.revert(&self.document)?;
+        let change = entry.change_back(&document, &self.document);
+        Ok(Prepared {
+            document,
+            step: Step::Undo,
+            change,
+        })
     }
 
     /// Prepares to redo the edit that was undone last, or answers `RedoEmpty` where there is none. The studio stays as
@@ -136,7 +152,13 @@ impl Studio {
             (λ p. IsChangeOf p.change self.now.document.rows p.document.rows) }
     {
         let entry = self.future.front().ok_or(EditFault::RedoEmpty)?;
-        Ok(redo_of(&self.document, entry)?)
+        let document = entry.apply(&self.document)?;
+        let change = entry.change(&self.document, &document);
+        Ok(Prepared {
+            document,
+            step: Step::Redo,
+            change,
+        })
     }
 
     /// Commits a step that was prepared from the studio's present state. It takes no memory and cannot fail. An edit

@@ -1,5 +1,9 @@
-pub mod NameLemmas
+pub mod NameLaws
 pub mod PictureLemmas
 pub mod ClosingLaws
 pub mod FillingLaws
+pub mod LeftLaws
 pub mod WorkLaws
+pub mod StackLemmas
+pub mod OrderLemmas
+pub mod AlongLemmas

@@ -1,10 +1,9 @@
--- How much is left to do, and how much was done.
-use Rattle.std.proofs.Common.{◌≡◌, ℕ, zero, suc, ◌+◌, ◌^◌, ◌<◌, ◌≤◌, List, length, get_or, ◌==◌, ◌/◌, ◌↔◌, cond, Bool, true, false, eq-eqb, eqb-true, refl, sym, ap, ◌∙◌, arith, add-one, inl, inr}
-use Rattle.std.specs.Prelude.{IsBitSet, count_ones}
+-- How much was done while lines were evaluated.
+use Rattle.std.proofs.Common.{◌≡◌, ℕ, zero, suc, ◌+◌, ◌^◌, ◌<◌, ◌≤◌, List, length, get_or, ◌/◌, ◌↔◌, refl, sym, ap, ◌∙◌, arith, add-one, inl, inr}
+use Rattle.std.specs.Prelude.{count_ones}
 use Rattle.std.specs.Int.{bit_at}
 use Rattle.std.specs.Int.Count.{ones_step}
 use Rattle.std.proofs.lemmas.Bool.{cases_eq}
-use Rattle.std.proofs.lemmas.List.{length-map}
 use Rattle.std.proofs.lemmas.Nat.{ones_le_self}
 use Rattle.std.proofs.lemmas.Nat.Bits.{bit_at-lt, bit_at-suc, bit_at-zero, bit_at_lowest, same_from_bits}
 use Rattle.line_facts.specs.Masks.{Masks}
@@ -12,143 +11,31 @@ use Rattle.picture.specs.declared.line_id.Axis.{Axis}
 use Rattle.picture.specs.declared.line_id.Axis.TheVariants.{Across, Down}
 use Rattle.picture.specs.declared.line_id.LineId.{LineId}
 use Rattle.picture.specs.LineSet.{Lines, HasName, PutsNames, TakesOutName, mask_along, name_count}
-use Rattle.picture.specs.Rows.{width_of, row_at, cell_at, line_along, line_of, lines_along, HasLine}
+use Rattle.picture.specs.Rows.{line_of, HasLine}
 use Rattle.clues.specs.ClueBook.{Clues, clue_at}
 use Rattle.line_facts.specs.declared.line_engine.Outcome.{Outcome}
 use Rattle.line_facts.specs.declared.line_engine.Outcome.TheVariants.{Narrowed, Dead}
 use Rattle.line_facts.specs.declared.meter.Meter.{Meter}
 use Rattle.line_facts.specs.Counts.{Counts, counted}
-use Rattle.line_facts.specs.FactSets.{IsFacts, IsWithin, Gains}
+use Rattle.line_facts.specs.FactSets.{Gains}
+use Rattle.fixpoint.specs.LeftToDo.{sum_to}
 use Rattle.fixpoint.specs.ClosedFacts.{change, changes, PutsCrossing, Evaluates, Draws, Works}
 use Rattle.line_facts.specs.CrossedLines.{CrossesChange}
 use Rattle.picture.specs.CrossingLines.{crossing}
-use Rattle.picture.proofs.BitLaws.{fewer_le, bit_is_set, same_bits, no_bit}
-use Rattle.line_facts.proofs.GridLaws.{cell_along}
+use Rattle.picture.proofs.BitLaws.{bit_is_set, same_bits, no_bit}
 use Rattle.line_facts.proofs.FitLaws.{counting_adds}
 use Rattle.picture.proofs.LineSetLaws.{put_all_counts}
-use Rattle.worklist.proofs.NameLaws.{take_counts}
-
--- ---- cells that differ
-
-change_none : (before after : ℕ) → before ≡ after → change before after ≡ 0
-change_none before after e = let P : Bool → ℕ = λ b. cond b 0 1 in ap P (eq-eqb before after e)
-
-change_some : (before after : ℕ) → (before ≡ after → ⊥) → change before after ≡ 1
-change_some before after d = by (before == after) refl
-  where
-    by : (b : Bool) → (before == after) ≡ b → ◌≡◌ {A = ℕ} (cond b 0 1) 1
-    by true e = absurd (d (eqb-true before after e))
-    by false e = refl
-
--- ---- masks
-
--- a mask that changes gets smaller
-mask_drops : (a b : ℕ) → ((k : ℕ) → IsBitSet b k → IsBitSet a k) → b + change a b ≤ a
-mask_drops a b h =
-    let l = fewer_le b a h in
-    elim (cases_eq a b) [
-      | inl e ↦ let z = change_none a b e in omega arith
-      | inr d ↦ let o = change_some a b d in omega arith
-    ]
-
--- ---- sums
-
-pub sum_to : (ℕ → ℕ) → ℕ → ℕ
-sum_to f zero = 0
-sum_to f (suc n) = sum_to f n + f n
-
-sum_le : (f g : ℕ → ℕ) (n : ℕ) → ((i : ℕ) → i < n → f i ≤ g i) → sum_to f n ≤ sum_to g n
-unfolding sum_to
-sum_le f g zero h = omega arith
-sum_le f g (suc n) h = let r = sum_le f g n (λ i l. h i (omega arith)) in let t = h n (omega arith) in omega arith
-
-sum_add : (f g : ℕ → ℕ) (n : ℕ) → sum_to (λ i. f i + g i) n ≡ sum_to f n + sum_to g n
-unfolding sum_to
-sum_add f g zero = refl
-sum_add f g (suc n) = let r = sum_add f g n in omega arith
-
-sum_term : (f : ℕ → ℕ) (n k : ℕ) → k < n → f k ≤ sum_to f n
-unfolding sum_to
-sum_term f zero k l = absurd (omega arith)
-sum_term f (suc n) k l = elim (cases_eq k n) [
-  | inl e ↦ let s = ap f e in omega arith
-  | inr d ↦ let r = sum_term f n k (omega arith) in omega arith
-]
-
-changes_sum : (before after : List ℕ) (n : ℕ) → changes before after n ≡ sum_to (λ i. change (get_or before i 0) (get_or after i 0)) n
-unfolding sum_to
-changes_sum before after zero = refl
-changes_sum before after (suc n) = let r = changes_sum before after n in omega arith
-
--- ---- all cells
-
--- the masks of all cells, added up
-pub weight : ℕ → ℕ → Masks → ℕ
-weight height width facts = sum_to (λ i. sum_to (λ j. cell_at facts i j) width) height
-
-differing : ℕ → ℕ → Masks → Masks → ℕ
-differing height width old new = sum_to (λ i. sum_to (λ j. change (cell_at old i j) (cell_at new i j)) width) height
-
-weight_drops : (height width : ℕ) (old new : Masks) → IsWithin old new → weight height width new + differing height width old new ≤ weight height width old
-unfolding weight differing
-weight_drops height width old new w =
-    let row : (i : ℕ) → sum_to (λ j. cell_at new i j) width + sum_to (λ j. change (cell_at old i j) (cell_at new i j)) width ≤ sum_to (λ j. cell_at old i j) width = λ i.
-    let all = sum_le (λ j. cell_at new i j + change (cell_at old i j) (cell_at new i j)) (λ j. cell_at old i j) width (λ j _. mask_drops (cell_at old i j) (cell_at new i j) (w.leaves i j)) in
-    let add = sum_add (λ j. cell_at new i j) (λ j. change (cell_at old i j) (cell_at new i j)) width in
-    omega arith
-    in
-    let rows = sum_le (λ i. sum_to (λ j. cell_at new i j) width + sum_to (λ j. change (cell_at old i j) (cell_at new i j)) width) (λ i. sum_to (λ j. cell_at old i j) width) height (λ i _. row i) in
-    let add = sum_add (λ i. sum_to (λ j. cell_at new i j) width) (λ i. sum_to (λ j. change (cell_at old i j) (cell_at new i j)) width) height in
-    omega arith
-
-changes_along : (axis : Axis) (at : ℕ) (old new : Masks) → IsFacts old → at < lines_along axis old
-    → changes (line_along axis at old) (line_along axis at new) (length (line_along axis at old)) ≤ differing (length old) (width_of old) old new
-unfolding differing
-changes_along Across at old new is h =
-    let all = sum_term (λ i. sum_to (λ j. change (cell_at old i j) (cell_at new i j)) (width_of old)) (length old) at h in
-    let e = ap (changes (row_at old at) (row_at new at)) (is.rectangular at h) in
-    let s = changes_sum (row_at old at) (row_at new at) (width_of old) in
-    omega arith
-changes_along Down at old new is h =
-    let column = line_along Down at old in
-    let other = line_along Down at new in
-    let e = ap (changes column other) (length-map old (λ (row : List ℕ). get_or row at 0)) in
-    let s = changes_sum column other (length old) in
-    let one : (i : ℕ) → change (get_or column i 0) (get_or other i 0) ≤ sum_to (λ j. change (cell_at old i j) (cell_at new i j)) (width_of old) = λ i.
-    let t = sum_term (λ j. change (cell_at old i j) (cell_at new i j)) (width_of old) at h in
-    let x = ap (λ m. change m (get_or other i 0)) (cell_along Down at old i) in
-    let y = ap (change (cell_at old i at)) (cell_along Down at new i) in
-    omega arith
-    in
-    let all = sum_le (λ i. change (get_or column i 0) (get_or other i 0)) (λ i. sum_to (λ j. change (cell_at old i j) (cell_at new i j)) (width_of old)) (length old) (λ i _. one i) in
-    omega arith
-
--- what is left to do: all masks added up, and the lines that wait
-pub left_to_do : Masks → Lines → ℕ
-left_to_do facts agenda = weight (length facts) (width_of facts) facts + name_count agenda
-
-pub less_to_do : (old new : Masks) (agenda rest after : Lines) (line : LineId) → IsFacts old → HasLine old line → IsWithin old new → HasName agenda line → TakesOutName agenda rest line
-    → PutsCrossing line (line_of old line) (line_of new line) rest after → left_to_do new after < left_to_do old agenda
-unfolding left_to_do
-less_to_do old new agenda rest after line is has w h t p =
-    let c = take_counts agenda rest line h t in
-    let drop = weight_drops (length old) (width_of old) old new w in
-    let on = changes_along line.axis line.at old new is has in
-    let rows = ap (λ n. weight n (width_of new) new) (sym w.same_shape.rows) in
-    let wide : width_of old ≡ width_of new = w.same_shape.each 0 in
-    let columns = ap (λ n. weight (length old) n new) (sym wide) in
-    omega arith
+use Rattle.fixpoint.proofs.LeftLaws.{change_some, changes_sum}
+use Rattle.fixpoint.proofs.NameLaws.{take_counts}
 
 -- ---- the lines put on the agenda
 
 sum_first : (f : ℕ → ℕ) (n : ℕ) → sum_to f (suc n) ≡ f 0 + sum_to (λ i. f (suc i)) n
-unfolding sum_to
 sum_first f zero = omega arith
 sum_first f (suc n) = let r = sum_first f n in omega arith
 
 -- a mask whose bit k is at most `f k`, and 0 from n on, has no more bits than the sum of `f` below n
 ones_at_most : (n mask : ℕ) (f : ℕ → ℕ) → ((k : ℕ) → bit_at mask k ≤ f k) → ((k : ℕ) → n ≤ k → bit_at mask k ≡ 0) → count_ones mask ≤ sum_to f n
-unfolding sum_to
 ones_at_most zero mask f low high =
     let none : mask ≡ 0 = same_from_bits mask 0 (λ k. high k (omega arith) ∙ sym (bit_at-zero k)) in
     let same = ap count_ones none in

@@ -4,10 +4,10 @@ ghost use Rattle.std.specs.Prelude.{◌≡◌};
 ghost use Rattle.fixpoint.specs.ClosedFacts.{AreClosable, Closes, KeepsOtherLines, QuietOutside, Works, evaluated};
 ghost use Rattle.fixpoint.specs.LineNames.{AreLinesOf};
 
+use crate::agenda::Agenda;
 use clues::ClueBook;
 use line_facts::{Facts, LineEngine, Meter, Outcome, force_crossing};
 use picture::LineSet;
-use worklist::Agenda;
 
 /// The result of closing facts: the outcome, the lines in which facts may have changed, and how many lines were evaluated. The
 /// count stays at the largest number instead of overflowing.

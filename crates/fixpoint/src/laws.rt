@@ -2,7 +2,7 @@
 
 ghost use Rattle.fixpoint.specs.Laws.{AllNamesAreCounted, ClosingKeepsFillings, OnlyIsClosed, PictureStays};
 
-#[tactic(auto, using(crate::proofs::NameLemmas::all_names))]
+#[tactic(auto, using(crate::proofs::NameLaws::all_names))]
 /// A set with the names of all lines of facts has one for each row and each column.
 pub fn all_names_are_counted()
     ensures { AllNamesAreCounted }

@@ -8,7 +8,7 @@ ghost use Rattle.fixpoint.specs.LineNames.{AllLines, PutsFirst};
 use line_facts::Facts;
 use picture::{Axis, LineId, LineSet, MAX_SIDE};
 
-#[tactic(auto, using(crate::proofs::NameLemmas::all_names))]
+#[tactic(auto, using(crate::proofs::NameLaws::all_names))]
 /// The names of all lines of the facts: the rows and the columns. Allocates no memory.
 pub fn all_lines(facts: &Facts) -> LineSet
     ensures lines { AllLines facts.now result }

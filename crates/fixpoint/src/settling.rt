@@ -6,12 +6,12 @@ ghost use Rattle.line_facts.specs.FactSets.{IsFacts};
 ghost use Rattle.fixpoint.specs.ClosedFacts.{AreClosable};
 ghost use Rattle.fixpoint.specs.LeastFacts.{Settles, SettlingWorks};
 
+use crate::agenda::Agenda;
 use crate::closing::close_facts;
 use crate::fault::CloseFault;
 use crate::line_names::all_lines;
 use clues::ClueBook;
 use line_facts::{Facts, LineEngine, Meter, Outcome};
-use worklist::Agenda;
 
 /// The least closed facts that hold a base: what the lines exclude by their clues, whichever engine and agenda are
 /// used. The base is left as it is. Dead says that under the least closed facts some line has no list that fits.

@@ -1,7 +1,6 @@
 pub mod FallLemmas
 pub mod NeedLemmas
 pub mod PathLemmas
-pub mod Remaining
 pub mod RunLemmas
 pub mod SettleLemmas
 pub mod StandLemmas

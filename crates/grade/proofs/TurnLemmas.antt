@@ -15,7 +15,7 @@ use Rattle.fixpoint.specs.LineNames.{AreLinesOf}
 use Rattle.grade.specs.declared.turn.Turn.{Turn}
 use Rattle.grade.specs.Runs.{next_turn, turn_of}
 use Rattle.grade.specs.Walking.{IsFirstAlong, IsNextWaiting, Passes, turn_over}
-use Rattle.worklist.proofs.NameLaws.{no_name_is_empty}
+use Rattle.fixpoint.proofs.NameLaws.{no_name_is_empty}
 
 next_along : (facts : Masks) (round : ℕ) (axis : Axis) (at : ℕ) → at + 1 < lines_along axis facts → next_turn facts (turn_of round axis at) ≡ turn_of round axis (at + 1)
 next_along facts round Across at l = grind (arith, nat_tests)

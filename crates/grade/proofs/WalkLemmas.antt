@@ -8,17 +8,18 @@ use Rattle.clues.specs.ClueBook.{Clues, clue_at}
 use Rattle.line_facts.specs.declared.line_engine.Outcome.{Outcome}
 use Rattle.line_facts.specs.CrossedLines.{CrossesChange}
 use Rattle.line_facts.specs.FactSets.{Gains, IsFacts}
+use Rattle.fixpoint.specs.LeftToDo.{left_to_do}
 use Rattle.grade.specs.declared.turn.Turn.{Turn}
 use Rattle.grade.specs.declared.walk.Walk.{Walk}
 use Rattle.grade.specs.Looks.{HasOpenCell, Look}
 use Rattle.grade.specs.Runs.{IsAfter, IsRun, look_in, next_turn, stage}
-use Rattle.grade.specs.Walking.{CanWalk, IsAbout, IsNextWaiting, Walks, remaining}
+use Rattle.grade.specs.Walking.{CanWalk, IsAbout, IsNextWaiting, Walks}
 use Rattle.picture.proofs.LineSetLaws.{cases_name}
 use Rattle.line_facts.proofs.ForceLaws.{gains_grows}
 use Rattle.line_facts.proofs.GridLaws.{same_has_line}
 use Rattle.fixpoint.proofs.ClosingLaws.{lines_after}
 use Rattle.fixpoint.proofs.WorkLaws.{crossing_put}
-use Rattle.grade.proofs.Remaining.{no_more_left}
+use Rattle.fixpoint.proofs.LeftLaws.{no_more_left}
 use Rattle.grade.proofs.RunLemmas.{all_quiet, look_at, pass_all, pass_by, waits_after}
 
 module _ (clues : Clues) (start facts : Masks) (looks : List Look) (walk next : Walk) (turn : Turn) (is : IsFacts facts) (can : CanWalk facts walk) (w : Walks clues start looks facts walk)
@@ -68,7 +69,7 @@ module _ (clues : Clues) (old new : Masks) (walk next : Walk) (turn : Turn) (out
     (crosses : (other : LineId) → HasName changed other ↔ CrossesChange turn.line (line_of old turn.line) (line_of new turn.line) other) (puts : PutsNames walk.due next.due changed)
     (same_turn : next.turn ≡ walk.turn) where
   -- after a look no more is left to do
-  pub less_after : remaining new next.due ≤ remaining old walk.due
+  pub less_after : left_to_do new next.due ≤ left_to_do old walk.due
   less_after =
       let put = crossing_put turn.line (line_of old turn.line) (line_of new turn.line) changed crosses walk.due next.due puts in
       no_more_left old new walk.due next.due turn.line is has (gains_grows (clue_at clues turn.line) turn.line old new outcome g) put

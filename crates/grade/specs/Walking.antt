@@ -1,32 +1,19 @@
 -- How far a walk through the turns of a run has come: what it knows of the lines that are due.
-use Rattle.std.specs.Prelude.{◌≡◌, ◌≢◌, ℕ, zero, suc, ◌+◌, ◌*◌, ◌^◌, ◌<◌, ◌≤◌, List, ◌∷◌, length, Option, None, Some}
+use Rattle.std.specs.Prelude.{◌≡◌, ◌≢◌, ℕ, zero, suc, ◌+◌, ◌*◌, ◌^◌, ◌<◌, ◌≤◌, List, ◌∷◌, Option, None, Some}
 use Rattle.line_facts.specs.Masks.{Masks}
 use Rattle.picture.specs.declared.line_id.Axis.{Axis}
 use Rattle.picture.specs.declared.line_id.Axis.TheVariants.{Across, Down}
 use Rattle.picture.specs.declared.line_id.LineId.{LineId}
-use Rattle.picture.specs.LineSet.{Lines, IsFirstBit, HasName, mask_along, name_count}
-use Rattle.picture.specs.Rows.{width_of, cell_at, line_of, HasLine}
+use Rattle.picture.specs.LineSet.{Lines, IsFirstBit, HasName, mask_along}
+use Rattle.picture.specs.Rows.{line_of, HasLine}
 use Rattle.clues.specs.ClueBook.{Clues}
+use Rattle.fixpoint.specs.LeftToDo.{left_to_do}
 use Rattle.fixpoint.specs.LineNames.{AreLinesOf}
 use Rattle.grade.specs.declared.turn.Turn.{Turn}
 use Rattle.grade.specs.declared.seen.Seen.{Seen}
 use Rattle.grade.specs.declared.walk.Walk.{Walk}
 use Rattle.grade.specs.Looks.{IsDue, Look}
 use Rattle.grade.specs.Runs.{IsAfter, IsLookedAt, IsRun, look_in, next_turn, stage, turn_of}
-
--- ---- what is left to do, which bounds all counts
-
-abbrev pub sum_to : (ℕ → ℕ) → ℕ → ℕ
-sum_to f zero = 0
-sum_to f (suc n) = sum_to f n + f n
-
--- the masks of all cells, added up
-unfoldable pub weight : ℕ → ℕ → Masks → ℕ
-weight height width facts = sum_to (λ i. sum_to (λ j. cell_at facts i j) width) height
-
--- the masks of all cells, and the lines that wait
-abbrev pub remaining : Masks → Lines → ℕ
-remaining facts due = weight (length facts) (width_of facts) facts + name_count due
 
 -- ---- turns that pass by
 
@@ -59,7 +46,7 @@ pub record IsNextWaiting (facts : Masks) (due : Lines) (from to : Turn) : Type 0
 pub record CanWalk (facts : Masks) (walk : Walk) : Type 0 where
   pub lines : AreLinesOf facts walk.due
   pub has_turn : HasLine facts walk.turn.line
-  pub room : walk.turn.round + 2 * remaining facts walk.due < 2 ^ 32
+  pub room : walk.turn.round + 2 * left_to_do facts walk.due < 2 ^ 32
 
 -- each line that waits is due, and each that is due and has an open cell waits
 pub record Waits (facts : Masks) (looks : List Look) (due : Lines) : Type 0 where

@@ -7,9 +7,10 @@ ghost use Rattle.picture.specs.LineSet.{HasName};
 ghost use Rattle.picture.specs.Rows.{HasLine};
 ghost use Rattle.clues.specs.ClueBook.{Clues, HasClue, clue_at};
 ghost use Rattle.fixpoint.specs.ClosedFacts.{AreClosable};
+ghost use Rattle.fixpoint.specs.LeftToDo.{left_to_do};
 ghost use Rattle.grade.specs.Looks.{HasOpenCell, Look};
 ghost use Rattle.grade.specs.Needs.{AreLeft};
-ghost use Rattle.grade.specs.Walking.{CanWalk, ComesToLook, Looks, Walks, remaining};
+ghost use Rattle.grade.specs.Walking.{CanWalk, ComesToLook, Looks, Walks};
 
 use crate::seen::{LineMasks, Seen};
 use crate::turn::Turn;
@@ -31,7 +32,7 @@ impl Walk {
     pub(crate) fn start(facts: &Facts) -> Walk
         ensures can { CanWalk facts.now result }
         ensures walks { (clues : Clues) → Walks clues facts.now [] facts.now result }
-        ensures few { remaining facts.now result.due < 2 ^ 30 }
+        ensures few { left_to_do facts.now result.due < 2 ^ 30 }
     {
         let _ = facts.height();
         Walk {
@@ -59,7 +60,7 @@ impl Walk {
         ensures left { IfSome result
             (λ seen. AreLeft (clue_at book.now seen.turn.line) seen.before seen.after) }
         ensures less { OnSome result
-            (remaining facts.new self.new.due < remaining facts.old self.old.due) }
+            (left_to_do facts.new self.new.due < left_to_do facts.old self.old.due) }
         ensures called { MatchOption
             result
             (E.calls engine.new ≡ E.calls engine.old)
@@ -91,7 +92,7 @@ impl Walk {
         ensures line { IfSome result (λ turn. HasLine facts.now turn.line) }
         ensures gone { IfSome result (λ turn. ¬ HasName self.new.due turn.line) }
         ensures less { OnSome result
-            (remaining facts.now self.new.due < remaining facts.now self.old.due) }
+            (left_to_do facts.now self.new.due < left_to_do facts.now self.old.due) }
     {
         let _ = facts.height();
         while let Some(turn) = self.turn.next_waiting(&self.due, facts) {

@@ -1,6 +1,6 @@
 //! Facts: the candidates of each cell, as a mask of the colours left.
 
-ghost use Rattle.std.specs.Prelude.{◌≡◌, ℕ, ◌<◌, ◌≤◌, ◌↔◌, List, length, IfOk, IsTrue, MatchOption, false};
+ghost use Rattle.std.specs.Prelude.{◌≡◌, ℕ, ◌+◌, ◌*◌, ◌<◌, ◌≤◌, ◌↔◌, List, length, slice_index, IfOk, IsTrue, MatchOption, false};
 ghost use Rattle.picture.specs.Rows.{rows_of, width_of, row_at, cell_at, line_of, with_cell, HasLine};
 ghost use Rattle.line_facts.specs.Masks.{IsOnly};
 ghost use Rattle.line_facts.specs.FactSets.{AreMasks, HoldsLine, IsFacts, Leaves, Excludes, ExcludesAt, nothing_excluded};
@@ -87,6 +87,15 @@ impl Facts {
     {
         let place = row as usize * self.width as usize + col as usize;
         self.masks[place]
+    }
+
+    /// The colours left in all cells, row after row.
+    pub fn masks(&self) -> &[u16]
+        ensures count { length result.now ≡ length self.now * width_of self.now }
+        ensures cells { (row col : ℕ) → row < length self.now → col < width_of self.now
+            → slice_index result.now (row * width_of self.now + col) ≡ cell_at self.now row col }
+    {
+        self.masks.as_slice()
     }
 
     /// Whether a colour is excluded in a cell.

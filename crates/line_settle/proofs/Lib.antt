@@ -24,4 +24,5 @@ pub mod PassLemmas
 pub mod ShownLemmas
 pub mod StateSetLemmas
 pub mod MarkedLemmas
+pub mod DirectionLemmas
 pub mod SweepLemmas

@@ -4,7 +4,8 @@ use Rattle.std.proofs.lemmas.Bool.{or_cases, or_left, or_right, false≢true, eq
 use Rattle.clues.specs.declared.block.Block.{Block}
 use Rattle.clues.specs.Clue.{IsClue}
 use Rattle.line_settle.specs.LeftOut.{ForcesAll, Misses}
-use Rattle.line_settle.specs.MarkedLists.{finish_marked, finishes_marked, reach_marked, reaches_marked}
+use Rattle.line_settle.specs.Directions.End.{Front, Back}
+use Rattle.line_settle.specs.MarkedLists.{finishes_marked, reaches_marked, step_marked}
 use Rattle.line_settle.specs.Patterns.{pattern_of, allows, finish_step, finishes, reach_step, reaches}
 use Rattle.line_settle.proofs.BitLemmas.{allows_none}
 use Rattle.line_settle.proofs.FillLemmas.{reach_step_agree}
@@ -177,7 +178,7 @@ before_right : (pattern : List ℕ) (f g later : ℕ → Bool) → Meets pattern
 before_right pattern f g later m = record { state = m.state; inside = m.inside; is_before = or_right _ _ m.is_before; is_later = m.is_later }
 
 pub joins_on : (pattern : List ℕ) (mask colours : ℕ) (all marked later later_marked : ℕ → Bool) → Joins pattern all marked (finish_step pattern mask later)
-    (finish_marked pattern mask colours later later_marked) → Joins pattern (reach_step pattern mask all) (reach_marked pattern mask colours all marked) later later_marked
+    (step_marked Back pattern mask colours later later_marked) → Joins pattern (reach_step pattern mask all) (step_marked Front pattern mask colours all marked) later later_marked
 joins_on pattern mask colours all marked later later_marked j = elim j [
   | inl m ↦ inl (before_left pattern (reach_step pattern mask marked) (reach_step pattern colours all) later (meets_on pattern mask marked later m))
   | inr m ↦ elim (meets_or pattern all (finish_step pattern mask later_marked) (finish_step pattern colours later) m) [
@@ -187,7 +188,7 @@ joins_on pattern mask colours all marked later later_marked j = elim j [
 ]
 
 pub joins_back : (pattern : List ℕ) (mask colours : ℕ) (all marked later later_marked : ℕ → Bool) → Joins pattern (reach_step pattern mask all)
-    (reach_marked pattern mask colours all marked) later later_marked → Joins pattern all marked (finish_step pattern mask later) (finish_marked pattern mask colours later later_marked)
+    (step_marked Front pattern mask colours all marked) later later_marked → Joins pattern all marked (finish_step pattern mask later) (step_marked Back pattern mask colours later later_marked)
 joins_back pattern mask colours all marked later later_marked j = elim j [
   | inl m ↦ elim (or_meets pattern (reach_step pattern mask marked) (reach_step pattern colours all) later m) [
     | inl a ↦ inl (meets_back pattern mask marked later a)
@@ -261,7 +262,7 @@ same_reached_marked pattern a b drawn (suc n) h q l =
     let less = fewer_before n a b h in
     let m = get_or b n 0 in
     let d = bit_and m (get_or drawn n 0) in
-    ap (λ x. reach_marked pattern x (bit_and x (get_or drawn n 0)) (reaches pattern a n) (reaches_marked pattern a drawn n) q) (h n (omega arith))
+    ap (λ x. step_marked Front pattern x (bit_and x (get_or drawn n 0)) (reaches pattern a n) (reaches_marked pattern a drawn n) q) (h n (omega arith))
     ∙ (ap (λ x. x || reach_step pattern d (reaches pattern a n) q)
     (reach_step_agree pattern m (reaches_marked pattern a drawn n) (reaches_marked pattern b drawn n) (same_reached_marked pattern a b drawn n less) q l)
     ∙ ap (λ x. reach_step pattern m (reaches_marked pattern b drawn n) q || x) (reach_step_agree pattern d (reaches pattern a n) (reaches pattern b n) (same_reached pattern a b n less) q l))

@@ -5,9 +5,9 @@ use Rattle.std.proofs.lemmas.Bool.Decides.{nat_tests}
 use Rattle.std.specs.Int.{bit_at}
 use Rattle.std.proofs.Math.Bool.{and-false, and-true, and_assoc, and_comm, or-false}
 use Rattle.std.proofs.lemmas.Bool.{cases_eq}
-use Rattle.std.proofs.Math.Nat.{pow-succ', div-div-eq-div-mul}
+use Rattle.std.proofs.Math.Nat.{pow-succ', div-div-eq-div-mul, mod-eq_of_lt}
+use Rattle.std.proofs.Math.Pow.{pow-lt}
 use Rattle.std.proofs.lemmas.Nat.Bits.{shr_and_one, bit_at_lowest, bit_at-suc, bit_at_and, bit_at_or, bit_at_xor, bit_at-lt, bit_at-pow_same, bit_at-pow_other}
-use Rattle.std.proofs.lemmas.Grind.{one_shifted}
 use Rattle.line_facts.specs.BitSets.{has}
 use Rattle.line_settle.specs.Positions.{spans}
 use Rattle.line_facts.proofs.BitSetLaws.{max_is_one}
@@ -34,11 +34,11 @@ has_power k i = elim (cases_eq i k) [
 pub has_one : (i : ℕ) → has 1 i ≡ (i == 0)
 has_one i = has_power 0 i
 
-pub has_place : (k i : ℕ) → k < 128 → has (1 * 2 ^ k % 340282366920938463463374607431768211456) i ≡ (i == k)
-has_place k i h = ap (λ m. has m i) (one_shifted k 340282366920938463463374607431768211455 refl h).0 ∙ has_power k i
-
-pub has_place_near : (k i : ℕ) → k < 64 → has (1 * 2 ^ k % 18446744073709551616) i ≡ (i == k)
-has_place_near k i h = ap (λ m. has m i) (one_shifted k 18446744073709551615 refl h).0 ∙ has_power k i
+-- one position below the width
+pub place_is : (width k : ℕ) → k < width → 1 * 2 ^ k % 2 ^ width ≡ 2 ^ k
+place_is width k h =
+    let one : 1 * 2 ^ k ≡ 2 ^ k = omega arith in
+    ap (λ n. n % 2 ^ width) one ∙ mod-eq_of_lt (pow-lt h)
 
 -- a shift to lower positions
 bit_shifted : (s a i : ℕ) → bit_at (a / 2 ^ s) i ≡ bit_at a (i + s)
@@ -212,6 +212,11 @@ pub up_next : (w a j : ℕ) → j + 1 < w → has (a * 2 % 2 ^ w) (j + 1) ≡ ha
 up_next w a j h = rw add-one (moved_up w a j h)
 
 -- the lowest bit as it is tested
-pub lowest : (a : ℕ) → (bit_and a 1 == 1) ≡ has a 0
+lowest : (a : ℕ) → (bit_and a 1 == 1) ≡ has a 0
 unfolding has
 lowest a = ap (λ x. x == 1) (let e : a ≡ a / 2 ^ 0 = omega arith in ap (λ x. bit_and x 1) e ∙ shr_and_one a 0)
+
+-- the same among the lowest eight bits
+pub lowest_of_eight : (a : ℕ) → (bit_and (bit_and a 255) 1 == 1) ≡ has a 0
+unfolding has
+lowest_of_eight a = lowest (bit_and a 255) ∙ (has_and a 255 0 ∙ and-true (has a 0))

@@ -12,7 +12,9 @@ use Rattle.clues.specs.declared.block.Block.{Block}
 use Rattle.clues.specs.Clue.{IsClue}
 use Rattle.line_settle.specs.LeftOut.{ForcesAll, LeavesOut}
 use Rattle.line_facts.specs.Masks.{all_sixteen}
-use Rattle.line_settle.specs.MarkedLists.{finish_marked, finishes_marked, reach_marked, reaches_marked, AreReached, AreBehind, ReachedSets, SweepsOut, unmarked}
+use Rattle.line_settle.specs.MarkedLists.{finishes_marked, reaches_marked, step_marked, AreReached, AreBehind, ReachedSets, SweepsOut, unmarked}
+use Rattle.line_settle.specs.Directions.{End, step_from}
+use Rattle.line_settle.specs.Directions.End.{Front, Back}
 use Rattle.line_settle.specs.Sweeps.{IsUndrawn, SweptTo, SweptMarked}
 use Rattle.line_facts.specs.BitSets.{has}
 use Rattle.line_settle.specs.Patterns.{pattern_of, allows, finish_step, finishes, reach_step, reaches}
@@ -24,9 +26,9 @@ use Rattle.line_settle.proofs.FillLemmas.{reach_step_agree}
 use Rattle.line_settle.proofs.FittingLemmas.{allows_bit, bit_allows, too_long, have_fits}
 use Rattle.line_settle.proofs.PositionLemmas.{has_power, has_one}
 use Rattle.line_settle.proofs.StateSetLemmas.{in_and, and_in, in_or, left_in, right_in, in_none, has_member, allowed_both, both_allowed}
-use Rattle.line_settle.proofs.StateLemmas.{Step}
-use Rattle.line_settle.proofs.StepLemmas.{finish_crosses, reached_by_step}
-use Rattle.line_settle.proofs.MarkedLemmas.{within, IsWider, Meets, SameBefore, forces_unmarked, unmarked_forces, marked_misses, wider_marked, marked_at, at_marked, same_reached, same_reached_marked}
+use Rattle.line_settle.proofs.StepLemmas.{finish_crosses}
+use Rattle.line_settle.proofs.DirectionLemmas.{IsSpelled, lead, step_spells}
+use Rattle.line_settle.proofs.MarkedLemmas.{IsWider, Meets, SameBefore, forces_unmarked, unmarked_forces, marked_misses, wider_marked, marked_at, at_marked, same_reached, same_reached_marked}
 
 -- ---- sets of states
 
@@ -37,30 +39,21 @@ foreign_is colours mask e k a b = false≢true (sym (allows_none k) ∙ (ap (λ 
 foreign_part : (colours mask d : ℕ) → IsForeign colours d → IsForeign colours (bit_and mask d)
 foreign_part colours mask d none k a = none k (allowed_both mask d k a).1
 
-leads_nowhere : (w : ℕ) (pattern : List ℕ) (sets : StateSets) (mask q x r : ℕ) → ArePatternSets w pattern sets → IsForeign sets.colours mask → allows mask x ≡ true → Step pattern q x r → ⊥
-leads_nowhere w pattern sets mask q x r are none a s = elim s [
-  | inl f ↦
+not_spelled : (w : ℕ) (pattern : List ℕ) (sets : StateSets) (mask k : ℕ) → ArePatternSets w pattern sets → IsForeign sets.colours mask → allows mask k ≡ true → IsSpelled pattern k → ⊥
+not_spelled w pattern sets mask k are none a spelled = elim spelled [
+  | inl z ↦ none k a (ap (allows sets.colours) z ∙ are.colours.background)
+  | inr n ↦
       let e = are.is_end in
-      let l : q < are.end = (let b = f.0 in omega arith) in
-      none x a (ap (allows sets.colours) f.1 ∙ are.colours.each q l)
-  | inr b ↦ none x a (ap (allows sets.colours) b.0 ∙ are.colours.background)
+      let l : n.0 < are.end = (let b = n.1 in omega arith) in
+      none k a (ap (allows sets.colours) n.2 ∙ are.colours.each n.0 l)
 ]
 
-pub none_forward : (w : ℕ) (pattern : List ℕ) (sets : StateSets) (mask : ℕ) (before : ℕ → Bool) → ArePatternSets w pattern sets → IsForeign sets.colours mask
-    → AreStates pattern (reach_step pattern mask before) 0
-none_forward w pattern sets mask before are none = record {
+pub none_over : (end : End) (w : ℕ) (pattern : List ℕ) (sets : StateSets) (mask : ℕ) (test : ℕ → Bool) → ArePatternSets w pattern sets → IsForeign sets.colours mask
+    → AreStates pattern (step_from end pattern mask test) 0
+none_over end w pattern sets mask test are none = record {
   each = λ q. (
     (λ h. absurd (in_none q h)),
-    (λ p. let r = reached_by_step pattern mask before q p.0 p.1 in absurd (leads_nowhere w pattern sets mask r.from r.colour q are none r.allowed r.step)),
-  );
-}
-
-pub none_back : (w : ℕ) (pattern : List ℕ) (sets : StateSets) (mask : ℕ) (behind : ℕ → Bool) → ArePatternSets w pattern sets → IsForeign sets.colours mask
-    → AreStates pattern (finish_step pattern mask behind) 0
-none_back w pattern sets mask behind are none = record {
-  each = λ q. (
-    (λ h. absurd (in_none q h)),
-    (λ p. let c = finish_crosses pattern mask behind q p.1 in absurd (leads_nowhere w pattern sets mask q c.0 c.1.next are none c.1.allowed c.1.step)),
+    (λ p. let l = lead end pattern mask test q p.0 p.1 in absurd (not_spelled w pattern sets mask l.colour are none l.allowed l.spelled)),
   );
 }
 
@@ -146,7 +139,7 @@ at_end w pattern left drawn sets n e are =
 -- the states after cell i give those before it
 pub before_cell : (pattern left drawn : List ℕ) (i : ℕ) (from : ReachedSets) → i < length left → length drawn ≡ length left
     → AreReached pattern (finish_step pattern (get_or left i 0) (finishes pattern (drop (suc i) left)))
-    (finish_marked pattern (get_or left i 0) (bit_and (get_or left i 0) (get_or drawn i 0)) (finishes pattern (drop (suc i) left)) (finishes_marked pattern (drop (suc i) left) (drop (suc i) drawn)))
+    (step_marked Back pattern (get_or left i 0) (bit_and (get_or left i 0) (get_or drawn i 0)) (finishes pattern (drop (suc i) left)) (finishes_marked pattern (drop (suc i) left) (drop (suc i) drawn)))
     from → AreReached pattern (finishes pattern (drop i left)) (finishes_marked pattern (drop i left) (drop i drawn)) from
 before_cell pattern left drawn i from l e r =
     let m = drop-cons left i 0 l in
@@ -202,7 +195,7 @@ first_reached w pattern left drawn sets all marked e f are =
 
 -- after cell i of a line that has the same masks before it, and this mask there
 pub behind_cell : (pattern left new drawn : List ℕ) (i mask : ℕ) (from : ReachedSets) → SameBefore i new left → get_or new i 0 ≡ mask → AreReached pattern
-    (reach_step pattern mask (reaches pattern left i)) (reach_marked pattern mask (bit_and mask (get_or drawn i 0)) (reaches pattern left i) (reaches_marked pattern left drawn i)) from
+    (reach_step pattern mask (reaches pattern left i)) (step_marked Front pattern mask (bit_and mask (get_or drawn i 0)) (reaches pattern left i) (reaches_marked pattern left drawn i)) from
     → AreReached pattern (reaches pattern new (suc i)) (reaches_marked pattern new drawn (suc i)) from
 behind_cell pattern left new drawn i mask from same e r =
     let d = get_or drawn i 0 in
@@ -212,8 +205,8 @@ behind_cell pattern left new drawn i mask from same e r =
       all_are = same_states pattern (reach_step pattern mask (reaches pattern left i)) (reaches pattern new (suc i)) from.all
           (λ q l. ap (λ m. reach_step pattern m (reaches pattern new i) q) e ∙ reach_step_agree pattern mask (reaches pattern new i) (reaches pattern left i) all q l) r.all_are;
       marked_are =
-          same_states pattern (reach_marked pattern mask (bit_and mask d) (reaches pattern left i) (reaches_marked pattern left drawn i)) (reaches_marked pattern new drawn (suc i)) from.marked
-          (λ q l. ap (λ m. reach_marked pattern m (bit_and m d) (reaches pattern new i) (reaches_marked pattern new drawn i) q) e
+          same_states pattern (step_marked Front pattern mask (bit_and mask d) (reaches pattern left i) (reaches_marked pattern left drawn i)) (reaches_marked pattern new drawn (suc i)) from.marked
+          (λ q l. ap (λ m. step_marked Front pattern m (bit_and m d) (reaches pattern new i) (reaches_marked pattern new drawn i) q) e
           ∙ (ap (λ x. x || reach_step pattern (bit_and mask d) (reaches pattern new i) q)
           (reach_step_agree pattern mask (reaches_marked pattern new drawn i) (reaches_marked pattern left drawn i) marked q l)
           ∙ ap (λ x. reach_step pattern mask (reaches_marked pattern left drawn i) q || x)
@@ -244,7 +237,7 @@ same_at a b i d =
 -- with all sixteen colours in cell i a line is marked exactly where the sets on the two sides share a state
 pub test_marked : (pattern old left drawn plain marked : List ℕ) (i : ℕ) (on : ReachedSets) → 0 < length pattern → i < length left → length drawn ≡ length left → drop (suc i) left ≡ drop (suc i) old
     → AreBehind pattern old drawn plain marked i → AreReached pattern (reach_step pattern 65535 (reaches pattern left i))
-    (reach_marked pattern 65535 (bit_and 65535 (get_or drawn i 0)) (reaches pattern left i) (reaches_marked pattern left drawn i)) on
+    (step_marked Front pattern 65535 (bit_and 65535 (get_or drawn i 0)) (reaches pattern left i) (reaches_marked pattern left drawn i)) on
     → (Shares on.marked (get_or plain i 0) ⊎ Shares on.all (get_or marked i 0)) ↔ (finishes_marked pattern (set left i 65535) drawn 0 ≡ true)
 test_marked pattern old left drawn plain marked i on p l e d b r =
     let new = set left i 65535 in
@@ -339,7 +332,7 @@ swept_out pattern drawn old left i p h small s f = record {
 -- the states after cell i with these colours there
 abbrev pub Reaches : ℕ → StateSets → List ℕ → List ℕ → ℕ → ℕ → ReachedSets → Type 0
 Reaches w sets drawn left i mask on = (pattern : List ℕ) → ArePatternSets w pattern sets → AreReached pattern (reach_step pattern mask (reaches pattern left i))
-    (reach_marked pattern mask (bit_and mask (get_or drawn i 0)) (reaches pattern left i) (reaches_marked pattern left drawn i)) on
+    (step_marked Front pattern mask (bit_and mask (get_or drawn i 0)) (reaches pattern left i) (reaches_marked pattern left drawn i)) on
 
 pub step_kept : (w : ℕ) (sets : StateSets) (drawn plain marked old left : List ℕ) (from on next : ReachedSets) (i : ℕ) → i < length left → length drawn ≡ length left
     → SweptTo w sets drawn plain marked old left from i → Reaches w sets drawn left i 65535 on → Reaches w sets drawn left i (get_or left i 0) next
@@ -375,28 +368,12 @@ step_out w sets drawn plain marked old left from on i l e t ons none_shared = re
 
 -- ---- cells that are not drawn
 
--- a state from which a cell leads to one of the pattern is one of it
-from_inside : (pattern : List ℕ) (mask : ℕ) (before : ℕ → Bool) (r : ℕ) (h : r < length pattern) (e : reach_step pattern mask before r ≡ true)
-    → (reached_by_step pattern mask before r h e).from < length pattern
-from_inside pattern mask before r h e = elim (reached_by_step pattern mask before r h e).step [
-  | inl a ↦ (let k = a.0 in let l = a.2 in omega arith)
-  | inr b ↦ (let l = b.2 in omega arith)
-]
-
--- from no states a cell leads nowhere, and to no states it leads from nowhere
-pub nowhere_forward : (pattern : List ℕ) (mask : ℕ) (before : ℕ → Bool) → AreStates pattern before 0 → AreStates pattern (reach_step pattern mask before) 0
-nowhere_forward pattern mask before none = record {
+-- from no states a cell leads nowhere
+nowhere_over : (end : End) (pattern : List ℕ) (mask : ℕ) (test : ℕ → Bool) → AreStates pattern test 0 → AreStates pattern (step_from end pattern mask test) 0
+nowhere_over end pattern mask test none = record {
   each = λ q. (
     (λ h. absurd (in_none q h)),
-    (λ p. let r = reached_by_step pattern mask before q p.0 p.1 in absurd (in_none r.from ((none.each r.from).1 (from_inside pattern mask before q p.0 p.1, r.was)))),
-  );
-}
-
-pub nowhere_back : (pattern : List ℕ) (mask : ℕ) (behind : ℕ → Bool) → AreStates pattern behind 0 → AreStates pattern (finish_step pattern mask behind) 0
-nowhere_back pattern mask behind none = record {
-  each = λ q. (
-    (λ h. absurd (in_none q h)),
-    (λ p. let c = finish_crosses pattern mask behind q p.1 in absurd (in_none c.1.next ((none.each c.1.next).1 (within pattern q c.0 c.1.next p.0 c.1.step, c.1.reaches_good)))),
+    (λ p. let l = lead end pattern mask test q p.0 p.1 in absurd (in_none l.from ((none.each l.from).1 (l.inside, l.was)))),
   );
 }
 
@@ -436,21 +413,14 @@ states_below test (suc n) = let s = states_below test n in one_state test n s.0 
 set_for : (pattern : List ℕ) (test : ℕ → Bool) → (set : ℕ) × AreStates pattern test set
 set_for pattern test = let s = states_below test (length pattern) in (s.0, record { each = s.1 })
 
--- where no line is marked before an undrawn cell, none is after it; and the same from the end
-pub unmarked_forward : (w : ℕ) (pattern : List ℕ) (sets : StateSets) (mask d on : ℕ) (all marked : ℕ → Bool) → ArePatternSets w pattern sets → IsForeign sets.colours d → AreStates pattern marked 0
-    → AreStates pattern (reach_step pattern mask all) on → AreReached pattern (reach_step pattern mask all) (reach_marked pattern mask (bit_and mask d) all marked) (unmarked on)
-unmarked_forward w pattern sets mask d on all marked are foreign none is = record {
+-- where no line is marked on one side of an undrawn cell, none is on the other
+pub unmarked_over : (end : End) (w : ℕ) (pattern : List ℕ) (sets : StateSets) (mask d on : ℕ) (all marked : ℕ → Bool) → ArePatternSets w pattern sets → IsForeign sets.colours d
+    → AreStates pattern marked 0 → AreStates pattern (step_from end pattern mask all) on
+    → AreReached pattern (step_from end pattern mask all) (step_marked end pattern mask (bit_and mask d) all marked) (unmarked on)
+unmarked_over end w pattern sets mask d on all marked are foreign none is = record {
   all_are = is;
-  marked_are = either_states pattern (reach_step pattern mask marked) (reach_step pattern (bit_and mask d) all) 0 0 (nowhere_forward pattern mask marked none)
-      (none_forward w pattern sets (bit_and mask d) all are (foreign_part sets.colours mask d foreign));
-}
-
-pub unmarked_back : (w : ℕ) (pattern : List ℕ) (sets : StateSets) (mask d on : ℕ) (all marked : ℕ → Bool) → ArePatternSets w pattern sets → IsForeign sets.colours d → AreStates pattern marked 0
-    → AreStates pattern (finish_step pattern mask all) on → AreReached pattern (finish_step pattern mask all) (finish_marked pattern mask (bit_and mask d) all marked) (unmarked on)
-unmarked_back w pattern sets mask d on all marked are foreign none is = record {
-  all_are = is;
-  marked_are = either_states pattern (finish_step pattern mask marked) (finish_step pattern (bit_and mask d) all) 0 0 (nowhere_back pattern mask marked none)
-      (none_back w pattern sets (bit_and mask d) all are (foreign_part sets.colours mask d foreign));
+  marked_are = either_states pattern (step_from end pattern mask marked) (step_from end pattern (bit_and mask d) all) 0 0 (nowhere_over end pattern mask marked none)
+      (none_over end w pattern sets (bit_and mask d) all are (foreign_part sets.colours mask d foreign));
 }
 
 -- one undrawn cell more
@@ -465,11 +435,11 @@ undrawn_past colours drawn i h k a b = false≢true (sym (allows_none k) ∙ (ap
 
 -- the marked lines after an undrawn cell
 pub marked_forward : (w : ℕ) (pattern : List ℕ) (sets : StateSets) (mask d on : ℕ) (all marked : ℕ → Bool) → ArePatternSets w pattern sets → IsForeign sets.colours d
-    → AreStates pattern (reach_step pattern mask marked) on → AreStates pattern (reach_marked pattern mask (bit_and mask d) all marked) on
+    → AreStates pattern (reach_step pattern mask marked) on → AreStates pattern (step_marked Front pattern mask (bit_and mask d) all marked) on
 marked_forward w pattern sets mask d on all marked are foreign is =
-    let P : ℕ → Type 0 = λ n. AreStates pattern (reach_marked pattern mask (bit_and mask d) all marked) n in
+    let P : ℕ → Type 0 = λ n. AreStates pattern (step_marked Front pattern mask (bit_and mask d) all marked) n in
     subst P (or_zero_r on) (either_states pattern (reach_step pattern mask marked) (reach_step pattern (bit_and mask d) all) on 0 is
-    (none_forward w pattern sets (bit_and mask d) all are (foreign_part sets.colours mask d foreign)))
+    (none_over Front w pattern sets (bit_and mask d) all are (foreign_part sets.colours mask d foreign)))
 
 -- where none of the pattern's colours is drawn no line is marked
 never_marked : (w : ℕ) (pattern : List ℕ) (sets : StateSets) (masks drawn : List ℕ) (q : ℕ) → ArePatternSets w pattern sets → IsUndrawn sets.colours drawn 0
@@ -482,7 +452,7 @@ never_marked w pattern sets (mask ∷ masks) (d ∷ drawn) q are none m = elim (
       never_marked w pattern sets masks drawn c.1.next are (λ i h. none (suc i) (omega arith)) c.1.reaches_good
   | inr b ↦
       let c = finish_crosses pattern (bit_and mask d) (finishes pattern masks) q b in
-      leads_nowhere w pattern sets (bit_and mask d) q c.0 c.1.next are (foreign_part sets.colours mask d (none 0 (omega arith))) c.1.allowed c.1.step
+      not_spelled w pattern sets (bit_and mask d) c.0 are (foreign_part sets.colours mask d (none 0 (omega arith))) c.1.allowed (step_spells pattern q c.0 c.1.next c.1.step)
 ]
 
 -- the test of a cell before which no line is marked
@@ -499,7 +469,7 @@ pub test_last : (w : ℕ) (sets : StateSets) (pattern old left drawn plain marke
 test_last w sets pattern old left drawn plain marked i on are p l e d none b is =
     let all = set_for pattern (reach_step pattern 65535 (reaches pattern left i)) in
     let r : AreReached pattern (reach_step pattern 65535 (reaches pattern left i))
-    (reach_marked pattern 65535 (bit_and 65535 (get_or drawn i 0)) (reaches pattern left i) (reaches_marked pattern left drawn i)) (record { all = all.0; marked = on }) = record {
+    (step_marked Front pattern 65535 (bit_and 65535 (get_or drawn i 0)) (reaches pattern left i) (reaches_marked pattern left drawn i)) (record { all = all.0; marked = on }) = record {
       all_are = all.1;
       marked_are = marked_forward w pattern sets 65535 (get_or drawn i 0) on (reaches pattern left i) (reaches_marked pattern left drawn i) are (none i (omega arith)) is;
     } in
@@ -523,7 +493,7 @@ marked_behind : (w : ℕ) (pattern : List ℕ) (sets : StateSets) (left new draw
 marked_behind w pattern sets left new drawn i mask on are same e none is =
     let all = set_for pattern (reach_step pattern mask (reaches pattern left i)) in
     let r : AreReached pattern (reach_step pattern mask (reaches pattern left i))
-    (reach_marked pattern mask (bit_and mask (get_or drawn i 0)) (reaches pattern left i) (reaches_marked pattern left drawn i)) (record { all = all.0; marked = on }) =
+    (step_marked Front pattern mask (bit_and mask (get_or drawn i 0)) (reaches pattern left i) (reaches_marked pattern left drawn i)) (record { all = all.0; marked = on }) =
     record { all_are = all.1; marked_are = marked_forward w pattern sets mask (get_or drawn i 0) on (reaches pattern left i) (reaches_marked pattern left drawn i) are none is } in
     (behind_cell pattern left new drawn i mask (record { all = all.0; marked = on }) same e r).marked_are
 

@@ -1,4 +1,5 @@
 pub mod ClosedLines
+pub mod Directions
 pub mod Engine
 pub mod LaidBlocks
 pub mod LeftOut

@@ -1,32 +1,31 @@
 -- Marked lists, which have a drawn colour somewhere, by the states of a pattern that they go through.
 use Rattle.std.specs.Prelude.{◌≡◌, ℕ, zero, suc, ◌<◌, ◌⊎◌, List, [], ◌∷◌, Bool, true, false, ◌||◌, length, slice_index}
 use Rattle.std.specs.Prelude.{slice_set, drop, bit_and}
-use Rattle.line_settle.specs.Patterns.{finish_step, finishes, reach_step, reaches}
+use Rattle.line_settle.specs.Directions.{End, step_from}
+use Rattle.line_settle.specs.Directions.End.{Front, Back}
+use Rattle.line_settle.specs.Patterns.{finishes, reaches}
 use Rattle.line_settle.specs.StateSets.{AreStates}
 use Rattle.line_facts.specs.Masks.{all_sixteen}
 use Rattle.line_settle.specs.declared.sweep.Reached.{Reached}
 
--- A line can go on from state q by a cell with one of the mask's colours and have a drawn colour in a later cell, or by
--- a cell with one of `colours`, the mask's drawn colours.
-abbrev pub finish_marked : List ℕ → ℕ → ℕ → (ℕ → Bool) → (ℕ → Bool) → ℕ → Bool
-finish_marked pattern mask colours all marked q = finish_step pattern mask marked q || finish_step pattern colours all q
+-- A cell leads a line to state q with a drawn colour on the way: by a colour of the mask from a state of `marked`, which
+-- has one behind it, or by one of `colours`, the mask's drawn colours.
+abbrev pub step_marked : End → List ℕ → ℕ → ℕ → (ℕ → Bool) → (ℕ → Bool) → ℕ → Bool
+step_marked end pattern mask colours all marked q =
+    step_from end pattern mask marked q || step_from end pattern colours all q
 
 -- a line of cells with these masks can go from state q to the pattern's end, with a drawn colour on the way
 abbrev pub finishes_marked : List ℕ → List ℕ → List ℕ → ℕ → Bool
 finishes_marked pattern [] drawn q = false
 finishes_marked pattern (mask ∷ masks) [] q = false
 finishes_marked pattern (mask ∷ masks) (d ∷ drawn) q =
-    finish_marked pattern mask (bit_and mask d) (finishes pattern masks) (finishes_marked pattern masks drawn) q
-
--- a line can reach state q by a cell, with a drawn colour there or before it
-abbrev pub reach_marked : List ℕ → ℕ → ℕ → (ℕ → Bool) → (ℕ → Bool) → ℕ → Bool
-reach_marked pattern mask colours all marked q = reach_step pattern mask marked q || reach_step pattern colours all q
+    step_marked Back pattern mask (bit_and mask d) (finishes pattern masks) (finishes_marked pattern masks drawn) q
 
 -- the first i cells of a line with these masks can reach state q, with a drawn colour on the way
 abbrev pub reaches_marked : List ℕ → List ℕ → List ℕ → ℕ → ℕ → Bool
 reaches_marked pattern masks drawn zero q = false
 reaches_marked pattern masks drawn (suc i) q =
-    reach_marked pattern (slice_index masks i) (bit_and (slice_index masks i) (slice_index drawn i))
+    step_marked Front pattern (slice_index masks i) (bit_and (slice_index masks i) (slice_index drawn i))
     (reaches pattern masks i) (reaches_marked pattern masks drawn i) q
 
 -- the sets of states of a `Reached` as numbers; `bits` gives the number of a word

@@ -2,6 +2,7 @@
 #![tactic(auto)]
 
 mod block_steps;
+mod direction;
 pub mod laws;
 mod line;
 mod mask_engine;

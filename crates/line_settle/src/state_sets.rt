@@ -2,10 +2,10 @@
 
 ghost use Rattle.std.specs.Prelude.{◌≡◌, ℕ, ◌+◌, ◌<◌, ◌≤◌, ◌↔◌, true, List, Bool, length, map, replicate, slice_index};
 ghost use Rattle.clues.specs.Clue.{IsClue};
-ghost use Rattle.line_settle.specs.Patterns.{allows, pattern_of, finish_step, reach_step};
+ghost use Rattle.line_settle.specs.Patterns.{allows, pattern_of};
 ghost use Rattle.line_settle.specs.LaidBlocks.{gap_before};
 ghost use Rattle.line_facts.specs.BitSets.{has};
-ghost use Rattle.line_settle.specs.StateSets.{AreStates, MovesBy, AreMovesOf, AreNext, ArePatternSets, moves_of, sets_of};
+ghost use Rattle.line_settle.specs.StateSets.{AreMovesOf, AreNext, ArePatternSets, moves_of, sets_of};
 
 use crate::block_steps::meets;
 use crate::pattern::allows;
@@ -22,33 +22,6 @@ pub struct Moves<W> {
     pub advancing: W,
     /// The states in which the cell, as background, can keep the line.
     pub resting: W,
-}
-
-impl<W: Word> Moves<W> {
-    /// The states after the cell, from the ones before it.
-    #[inline]
-    pub fn forward(self, from: W) -> W
-        ensures { (pattern : List ℕ) (mask : ℕ) (before : ℕ → Bool)
-            → MovesBy W.width pattern mask (moves_of W.bits self)
-            → AreStates pattern before (W.bits from)
-            → AreStates pattern (reach_step pattern mask before) (W.bits result) }
-    {
-        from.and(self.advancing).up(1).or(from.and(self.resting))
-    }
-
-    /// The states before the cell from which it leads to one of a set.
-    #[inline]
-    pub fn back(self, later: W) -> W
-        ensures { (pattern : List ℕ) (mask : ℕ) (behind : ℕ → Bool)
-            → MovesBy W.width pattern mask (moves_of W.bits self)
-            → AreStates pattern behind (W.bits later)
-            → AreStates pattern (finish_step pattern mask behind) (W.bits result) }
-    {
-        later
-            .down(1)
-            .and(self.advancing)
-            .or(later.and(self.resting))
-    }
 }
 
 /// Sets of the states of a clue's pattern, by what can be read in them.

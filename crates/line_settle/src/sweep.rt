@@ -5,13 +5,15 @@ ghost use Rattle.std.specs.List.{All};
 ghost use Rattle.std.specs.Mem.{type_size};
 ghost use Rattle.clues.specs.Clue.{IsClue};
 ghost use Rattle.line_settle.specs.LeftOut.{ForcesAll, LeavesOut};
-ghost use Rattle.line_settle.specs.Patterns.{pattern_of, finishes, finish_step, reach_step};
+ghost use Rattle.line_settle.specs.Directions.{step_from};
+ghost use Rattle.line_settle.specs.Patterns.{pattern_of, finishes};
 ghost use Rattle.line_settle.specs.StateSets.{AreStates, MovesBy, ArePatternSets, Shares, moves_of, sets_of};
-ghost use Rattle.line_settle.specs.MarkedLists.{finish_marked, finishes_marked, reach_marked, AreReached, AreBehind, SweepsOut, reached_of, unmarked};
+ghost use Rattle.line_settle.specs.MarkedLists.{finishes_marked, step_marked, AreReached, AreBehind, SweepsOut, reached_of, unmarked};
 ghost use Rattle.line_settle.specs.Sweeps.{IsUndrawn, SweptTo, SweptMarked, SweptAll};
 ghost use Rattle.line_facts.specs.Masks.{all_sixteen};
 ghost use Rattle.line_facts.specs.BitSets.{has};
 
+use crate::direction::{Direction, FromBack, FromFront};
 use crate::mask_line::has_room;
 use crate::state_sets::{Moves, PatternSets};
 use crate::word::Word;
@@ -63,24 +65,25 @@ fn meets_marked<W: Word>(on: Reached<W>, plain: W, marked: W) -> bool
 }
 
 impl<'a, W: Word> PatternSets<'a, W> {
-    // The states after a cell with one of the drawn colours. Mostly the pattern has none of these colours.
+    // The states to which a cell with one of the drawn colours leads from a set. Mostly the pattern has none of these
+    // colours.
     #[inline(always)]
-    fn reach_drawn(&self, colours: u16, from: W) -> W
+    fn pass_drawn<D: Direction>(&self, colours: u16, from: W) -> W
         requires sixteen { length self.now.next.now ≡ 16 }
-        ensures { (pattern : List ℕ) (before : ℕ → Bool)
+        ensures { (pattern : List ℕ) (test : ℕ → Bool)
             → ArePatternSets W.width pattern (sets_of W.bits self.now)
-            → AreStates pattern before (W.bits from)
-            → AreStates pattern (reach_step pattern colours before) (W.bits result) }
+            → AreStates pattern test (W.bits from)
+            → AreStates pattern (step_from D.end pattern colours test) (W.bits result) }
     {
         if colours & self.colours == 0 {
             return W::low(0);
         }
-        self.moves_by(colours).forward(from)
+        D::pass(self.moves_by(colours), from)
     }
 
-    // The states after a cell, `colours` being those of the mask's colours that are drawn there.
+    // The states to which a cell leads, `colours` being those of the mask's colours that are drawn there.
     #[inline(always)]
-    fn reach(&self, moves: Moves<W>, colours: u16, from: Reached<W>) -> Reached<W>
+    fn pass<D: Direction>(&self, moves: Moves<W>, colours: u16, from: Reached<W>) -> Reached<W>
         requires sixteen { length self.now.next.now ≡ 16 }
         ensures { (pattern : List ℕ) (mask : ℕ) (all marked : ℕ → Bool)
             → ArePatternSets W.width pattern (sets_of W.bits self.now)
@@ -88,52 +91,13 @@ impl<'a, W: Word> PatternSets<'a, W> {
             → AreReached pattern all marked (reached_of W.bits from)
             → AreReached
             pattern
-            (reach_step pattern mask all)
-            (reach_marked pattern mask colours all marked)
+            (step_from D.end pattern mask all)
+            (step_marked D.end pattern mask colours all marked)
             (reached_of W.bits result) }
     {
         Reached {
-            all: moves.forward(from.all),
-            marked: moves
-                .forward(from.marked)
-                .or(self.reach_drawn(colours, from.all)),
-        }
-    }
-
-    // The states from which a cell with one of the drawn colours leads to a set; mostly the pattern has none of these colours.
-    #[inline(always)]
-    fn back_drawn(&self, colours: u16, later: W) -> W
-        requires sixteen { length self.now.next.now ≡ 16 }
-        ensures { (pattern : List ℕ) (behind : ℕ → Bool)
-            → ArePatternSets W.width pattern (sets_of W.bits self.now)
-            → AreStates pattern behind (W.bits later)
-            → AreStates pattern (finish_step pattern colours behind) (W.bits result) }
-    {
-        if colours & self.colours == 0 {
-            return W::low(0);
-        }
-        self.moves_by(colours).back(later)
-    }
-
-    // The states before a cell from which lines, and marked lines, can go on to the states after it.
-    #[inline(always)]
-    fn back(&self, moves: Moves<W>, colours: u16, later: Reached<W>) -> Reached<W>
-        requires sixteen { length self.now.next.now ≡ 16 }
-        ensures { (pattern : List ℕ) (mask : ℕ) (all marked : ℕ → Bool)
-            → ArePatternSets W.width pattern (sets_of W.bits self.now)
-            → MovesBy W.width pattern mask (moves_of W.bits moves)
-            → AreReached pattern all marked (reached_of W.bits later)
-            → AreReached
-            pattern
-            (finish_step pattern mask all)
-            (finish_marked pattern mask colours all marked)
-            (reached_of W.bits result) }
-    {
-        Reached {
-            all: moves.back(later.all),
-            marked: moves
-                .back(later.marked)
-                .or(self.back_drawn(colours, later.all)),
+            all: D::pass(moves, from.all),
+            marked: D::pass(moves, from.marked).or(self.pass_drawn::<D>(colours, from.all)),
         }
     }
 
@@ -173,7 +137,7 @@ impl<'a, W: Word> PatternSets<'a, W> {
             plain[at] = states;
             marked[at] = W::low(0);
             cell = self.moves_after(left[at], cell);
-            states = cell.back(states);
+            states = FromBack::pass(cell, states);
         }
         Edge { at, states }
     }
@@ -209,7 +173,7 @@ impl<'a, W: Word> PatternSets<'a, W> {
             plain[i] = later.all;
             marked[i] = later.marked;
             cell = self.moves_after(left[i], cell);
-            later = self.back(cell, left[i] & drawn[i], later);
+            later = self.pass::<FromBack>(cell, left[i] & drawn[i], later);
         }
         last.at
     }
@@ -239,12 +203,12 @@ impl<'a, W: Word> PatternSets<'a, W> {
         let mut states = W::low(1);
         let mut at = 0;
         'cells: while at < behind.end && drawn[at] & self.colours == 0 {
-            let on = full.forward(states);
+            let on = FromFront::pass(full, states);
             if on.and(behind.marked[at]).is_none() {
                 left[at] = u16::MAX;
                 states = on;
             } else {
-                states = self.moves_by(left[at]).forward(states);
+                states = FromFront::pass(self.moves_by(left[at]), states);
             }
             at += 1;
         }
@@ -288,9 +252,10 @@ impl<'a, W: Word> PatternSets<'a, W> {
             marked: W::low(0),
         };
         for i in first.at..behind.end {
-            let on = self.reach(full, u16::MAX & drawn[i], from);
+            let on = self.pass::<FromFront>(full, u16::MAX & drawn[i], from);
             if meets_marked(on, behind.plain[i], behind.marked[i]) {
-                from = self.reach(self.moves_by(left[i]), left[i] & drawn[i], from);
+                let moves = self.moves_by(left[i]);
+                from = self.pass::<FromFront>(moves, left[i] & drawn[i], from);
             } else {
                 left[i] = u16::MAX;
                 from = on;
@@ -332,12 +297,12 @@ impl<'a, W: Word> PatternSets<'a, W> {
         let full = self.moves_by(u16::MAX);
         let mut marked = before;
         for place in behind.end..left.len() {
-            let on = full.forward(marked);
+            let on = FromFront::pass(full, marked);
             if on.and(behind.plain[place]).is_none() {
                 left[place] = u16::MAX;
                 marked = on;
             } else {
-                marked = self.moves_by(left[place]).forward(marked);
+                marked = FromFront::pass(self.moves_by(left[place]), marked);
             }
         }
     }

@@ -21,10 +21,14 @@ pub trait Word: Copy + Drop {
         ensures { bits result ≡ places };
 
     /// The set of one position.
+    #[inline]
     fn place(at: usize) -> Self
         requires { at < width }
         ensures value { bits result ≡ 2 ^ at }
-        ensures each { (i : ℕ) → has (bits result) i ≡ (i == at) };
+        ensures each { (i : ℕ) → has (bits result) i ≡ (i == at) }
+    {
+        Self::low(1).up(at)
+    }
 
     /// The positions of both sets.
     fn and(self, other: Self) -> Self
@@ -58,8 +62,12 @@ pub trait Word: Copy + Drop {
         ensures { bits result ≡ bits self * 2 ^ steps % 2 ^ width };
 
     /// Whether the set has the first position.
+    #[inline]
     fn has_first(self) -> bool
-        ensures { result ≡ has (bits self) 0 };
+        ensures { result ≡ has (bits self) 0 }
+    {
+        self.low_eight() & 1 == 1
+    }
 
     /// Whether the set is empty.
     fn is_none(self) -> bool
@@ -88,11 +96,6 @@ impl Word for u64 {
     #[inline]
     fn low(places: u64) -> u64 {
         places
-    }
-
-    #[inline]
-    fn place(at: usize) -> u64 {
-        1 << at
     }
 
     #[inline]
@@ -131,11 +134,6 @@ impl Word for u64 {
     }
 
     #[inline]
-    fn has_first(self) -> bool {
-        self & 1 == 1
-    }
-
-    #[inline]
     fn is_none(self) -> bool {
         self == 0
     }
@@ -163,11 +161,6 @@ impl Word for u128 {
     #[inline]
     fn low(places: u64) -> u128 {
         u128::from(places)
-    }
-
-    #[inline]
-    fn place(at: usize) -> u128 {
-        1 << at
     }
 
     #[inline]
@@ -203,11 +196,6 @@ impl Word for u128 {
     #[inline]
     fn up(self, steps: usize) -> u128 {
         self << steps
-    }
-
-    #[inline]
-    fn has_first(self) -> bool {
-        self & 1 == 1
     }
 
     #[inline]

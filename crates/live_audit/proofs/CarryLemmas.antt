@@ -8,7 +8,7 @@ use Rattle.clues.specs.Change.{Moves}
 use Rattle.clues.specs.ClueBook.{Clues}
 use Rattle.line_facts.specs.declared.meter.Meter.{Meter}
 use Rattle.justify.specs.Book.{Account}
-use Rattle.kept_audit.specs.Audit.{GoesOn}
+use Rattle.live_audit.specs.Audit.{GoesOn, nothing_done}
 use Rattle.second_search.specs.declared.keeper.KeptPart.{KeptPart}
 use Rattle.second_search.specs.CarriedParts.{Carries}
 use Rattle.second_search.specs.JudgedParts.{AreTrue, parts_of}
@@ -16,7 +16,7 @@ use Rattle.second_search.specs.Parts.{AreParts, board}
 use Rattle.edits.specs.Design.{Design, design_of}
 use Rattle.edits.specs.History.{Advance, History, advanced}
 use Rattle.live_audit.specs.declared.work.Work.{Work}
-use Rattle.live_audit.specs.Bench.{AreAnswersOf, AreGivenCells, Seen, nothing_done, seen}
+use Rattle.live_audit.specs.Bench.{AreAnswersOf, AreGivenCells, Seen, seen}
 use Rattle.live_audit.specs.Calls.{CarriesOn}
 use Rattle.live_audit.proofs.VerdictLemmas.{answers_of}
 

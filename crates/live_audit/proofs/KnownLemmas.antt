@@ -18,7 +18,8 @@ use Rattle.second_search.specs.Parts.{board}
 use Rattle.live_audit.specs.declared.verdict.Verdict.{Verdict}
 use Rattle.live_audit.specs.declared.verdict.Verdict.TheVariants as verdicts
 use Rattle.live_audit.specs.declared.work.Work.{Work}
-use Rattle.live_audit.specs.Bench.{Seen, nothing_done}
+use Rattle.live_audit.specs.Audit.{nothing_done}
+use Rattle.live_audit.specs.Bench.{Seen}
 use Rattle.live_audit.specs.Laws.{CertifiedVerdictsSearchNothing}
 use Rattle.live_audit.specs.Verdict.{AnswersAs}
 use Rattle.live_audit.proofs.VerdictLemmas.{keeps_so}

@@ -1,4 +1,5 @@
 pub mod AuditLemmas
+pub mod BenchLemmas
 pub mod CallLemmas
 pub mod StrokeLemmas
 pub mod VerdictLemmas

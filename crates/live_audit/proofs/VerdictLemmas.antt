@@ -32,8 +32,8 @@ use Rattle.edits.specs.History.{History, history}
 use Rattle.edits.specs.Laws.{MarksAreGivens}
 use Rattle.live_audit.specs.declared.verdict.Verdict.{Verdict}
 use Rattle.live_audit.specs.declared.work.Work.{Work}
-use Rattle.kept_audit.specs.Audit.{IsAuditOf}
-use Rattle.live_audit.specs.Bench.{AreAnswersOf, AreGivenCells, IsAudited, IsGiven, Seen, nothing_done, seen}
+use Rattle.live_audit.specs.Audit.{IsAuditOf, nothing_done}
+use Rattle.live_audit.specs.Bench.{AreAnswersOf, AreGivenCells, IsAudited, IsGiven, Seen, seen}
 use Rattle.live_audit.specs.Verdict.{Decides, IsOtherFor, IsToldBy, IsVerdictOn, ShowsOthers, WasDecided}
 
 -- ---- the scene of a document

@@ -6,8 +6,7 @@ use Rattle.picture.specs.CellSet.{HasCell, IsCellSet}
 use Rattle.picture.specs.Rows.{cell_at}
 use Rattle.clues.specs.ClueBook.{Clues}
 use Rattle.justify.specs.Book.{Account}
-use Rattle.kept_audit.specs.Audit.{IsAnew, IsAuditOf}
-pub use Rattle.kept_audit.specs.Audit.{nothing_done}
+use Rattle.live_audit.specs.Audit.{IsAnew, IsAuditOf, nothing_done}
 use Rattle.second_search.specs.declared.keeper.KeptPart.{KeptPart}
 use Rattle.second_search.specs.JudgedParts.{AreTrue, Starts, parts_of}
 use Rattle.second_search.specs.Parts.{AreParts, Board, board}

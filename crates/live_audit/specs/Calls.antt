@@ -2,7 +2,7 @@
 use Rattle.std.specs.Prelude.{◌≡◌, ◌≤◌, ℕ, List, [], ◌∷◌, Option, Some, None, Result, MatchResult, unwrap_or}
 use Rattle.cert_text.specs.Cert.{Certificate}
 use Rattle.clues.specs.Change.{Moves}
-use Rattle.kept_audit.specs.Audit.{GoesOn}
+use Rattle.live_audit.specs.Audit.{GoesOn, nothing_done}
 use Rattle.second_search.specs.declared.keeper.KeptPart.{KeptPart}
 use Rattle.second_search.specs.Verdict.{Verdict as Judgement}
 use Rattle.second_search.specs.CarriedParts.{Carries}
@@ -12,7 +12,7 @@ use Rattle.edits.specs.declared.fault.EditFault.TheVariants.{Memory}
 use Rattle.edits.specs.History.{History}
 use Rattle.live_audit.specs.declared.certifying.Finding.{Finding}
 use Rattle.live_audit.specs.declared.verdict.Verdict.{Verdict}
-use Rattle.live_audit.specs.Bench.{AreAnswersOf, Seen, IsAudited, board_seen, nothing_done}
+use Rattle.live_audit.specs.Bench.{AreAnswersOf, Seen, IsAudited, board_seen}
 use Rattle.live_audit.specs.Certify.{Certifies}
 use Rattle.live_audit.specs.Stroke.{Stroke, after_stroke, stroke_fault, stroke_moves}
 use Rattle.live_audit.specs.Verdict.{IsVerdictOn, Tells}

@@ -11,7 +11,8 @@ use Rattle.propagate.specs.Turns.{cells_drawn, steps_added}
 use Rattle.edits.specs.Design.{Design}
 use Rattle.live_audit.specs.declared.verdict.Verdict.{Verdict}
 use Rattle.live_audit.specs.declared.verdict.Verdict.TheVariants.{Undecided}
-use Rattle.live_audit.specs.Bench.{Seen, IsAudited, nothing_done}
+use Rattle.live_audit.specs.Audit.{nothing_done}
+use Rattle.live_audit.specs.Bench.{Seen, IsAudited}
 use Rattle.live_audit.specs.Calls.{Accepts, Call, AreRight, IsSearched, Lead, after_calls, machine}
 use Rattle.live_audit.specs.Stroke.{Stroke, stroke_moves}
 use Rattle.live_audit.specs.Verdict.{IsOtherFor, Tells}

@@ -1,4 +1,5 @@
 pub mod Assessing
+pub mod Audit
 pub mod Bench
 pub mod Calls
 pub mod Laws

@@ -14,7 +14,8 @@ use Rattle.second_search.specs.Evaluations.{AreFew}
 use Rattle.edits.specs.Design.{Design}
 use Rattle.live_audit.specs.declared.verdict.Verdict.{Verdict}
 use Rattle.live_audit.specs.declared.verdict.Verdict.TheVariants.{Unique, Ambiguous, Undecided}
-use Rattle.live_audit.specs.Bench.{IsGiven, Seen, board_seen, nothing_done}
+use Rattle.live_audit.specs.Audit.{nothing_done}
+use Rattle.live_audit.specs.Bench.{IsGiven, Seen, board_seen}
 
 -- another picture for a document: one with its clues, and with its colours in its givens
 abbrev pub IsOtherFor : Design → Rows → Type 0

@@ -1,14 +1,15 @@
 //! What is worked out of a document, with nothing kept.
 
 ghost use Rattle.std.specs.Prelude.{◌≡◌, ◌≤◌, IfOk};
-ghost use Rattle.kept_audit.specs.Audit.{IsAuditOf};
+ghost use Rattle.live_audit.specs.Audit.{IsAuditOf};
 ghost use Rattle.edits.specs.Design.{design_of};
 ghost use Rattle.live_audit.specs.Assessing.{AreFewToAssess, IsAssessmentOf, IsPathOf};
 
+use crate::audit::Audit;
 use crate::judging::scene_of;
 use assess::{Assessment, assess};
+use edits::know;
 use grade::{Path, make_path, start_facts};
-use kept_audit::Audit;
 use line_facts::LineEngine;
 use picture::{Document, MAX_SIDE};
 use std::alloc::{AllocError, Global};
@@ -26,7 +27,6 @@ pub(crate) fn path_of<E: LineEngine>(
     ensures calls { E.calls engine.old ≤ E.calls engine.new }
     ensures same_longest { E.longest engine.new ≡ E.longest engine.old }
 {
-    let _ = engine.calls();
     let scene = scene_of(document, audit);
     let start = start_facts(alloc, document, scene.clues)?;
     let path = make_path(alloc, engine, start, scene.clues)?;
@@ -47,6 +47,6 @@ pub(crate) fn assessment_of<E: LineEngine>(
     ensures calls { E.calls engine.old ≤ E.calls engine.new }
     ensures same_longest { E.longest engine.new ≡ E.longest engine.old }
 {
-    let _ = document.givens.has(0, 0);
+    know(document);
     assess(alloc, engine, document, allowance)
 }

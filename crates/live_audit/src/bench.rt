@@ -16,6 +16,7 @@ ghost use Rattle.live_audit.specs.Verdict.{Decides, IsToldBy, IsVerdictOn, Answe
 ghost use Rattle.second_search.specs.JudgedParts.{HasNoFilling};
 
 use crate::assessing::{assessment_of, path_of};
+use crate::audit::{Audit, Revision, audit_again, audit_anew};
 use crate::certifying::{Finding, certify_ordered};
 use crate::judging::{answers_next, other_kept, rule, rule_beside};
 use crate::verdict::Verdict;
@@ -27,7 +28,6 @@ use clues::ClueBook;
 use edits::{Edit, EditFault, MAX_DEPTH, Prepared, Studio};
 use grade::Path;
 use justify::Book;
-use kept_audit::{Audit, Revision, audit_again, audit_anew};
 use line_facts::{Facts, LineEngine};
 use picture::{Document, MAX_SIDE};
 use propagate::Agenda;
@@ -85,7 +85,6 @@ impl<E: LineEngine + Drop, A: Agenda + Drop> Bench<E, A> {
         ensures begins { IfOk result (Begins (design_of document) depth (E.calls engine)) }
         ensures audited { IfOk result IsAudited }
     {
-        let _ = document.picture.height();
         let Ok((audit, edit)) = audit_anew(alloc, &mut engine, &mut agenda, &document) else {
             return Err(AllocError);
         };
@@ -156,7 +155,6 @@ impl<E: LineEngine + Drop, A: Agenda + Drop> Bench<E, A> {
             new: prepared.document(),
             change: prepared.change(),
         };
-        let _ = turn.new.picture.height();
         let Ok((audit, edit)) = audit_again(self.alloc, &mut self.engine, &mut self.agenda, &turn)
         else {
             return Err(EditFault::Memory);

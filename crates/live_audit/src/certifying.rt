@@ -5,6 +5,7 @@ ghost use Rattle.edits.specs.Design.{design_of};
 ghost use Rattle.live_audit.specs.Certify.{Certifies};
 
 use certificate::{Cert, make_cert_within};
+use edits::know;
 use line_facts::LineEngine;
 use picture::{Document, MAX_SIDE};
 use second_search::{BOUNDS, Keeper};
@@ -30,10 +31,9 @@ pub(crate) fn certify_ordered<E: LineEngine>(
     ensures same_longest { E.longest engine.new ≡ E.longest engine.old }
     ensures calls { E.calls engine.old ≤ E.calls engine.new }
 {
-    let _ = document.picture.height();
-    let _ = document.palette.len();
+    know(document);
     let document = document.ordered()?;
-    let _ = document.picture.height();
+    know(&document);
     let (picture, givens) = (&document.picture, &document.givens);
     make_cert_within(alloc, engine, picture, givens, BOUNDS, Some(judging))
 }

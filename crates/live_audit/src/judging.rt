@@ -6,13 +6,14 @@ ghost use Rattle.second_search.specs.CarriedParts.{Carries};
 ghost use Rattle.second_search.specs.JudgedParts.{Done, FirstFilling, HasNoFilling, Judges};
 ghost use Rattle.second_search.specs.Parts.{IsScene, board};
 ghost use Rattle.second_search.specs.Evaluations.{AreFew};
-ghost use Rattle.kept_audit.specs.Audit.{IsAuditOf};
+ghost use Rattle.live_audit.specs.Audit.{IsAuditOf, nothing_done};
 ghost use Rattle.edits.specs.Design.{design_of};
-ghost use Rattle.live_audit.specs.Bench.{AreAnswersOf, AreGivenCells, nothing_done};
+ghost use Rattle.live_audit.specs.Bench.{AreAnswersOf, AreGivenCells};
 ghost use Rattle.live_audit.specs.Verdict.{IsOtherFor, IsToldBy, ShowsOthers, WasDecided};
 
+use crate::audit::Audit;
 use crate::work::{NO_WORK, Work};
-use kept_audit::Audit;
+use edits::know;
 use line_facts::LineEngine;
 use picture::{Document, MAX_SIDE, Picture};
 use second_search::{Judged, Keeper, Scene};
@@ -28,8 +29,7 @@ pub(crate) fn scene_of<'a>(document: &'a Document, audit: &'a Audit) -> Scene<'a
     ensures givens { result.givens.now ≡ document.now.givens }
     ensures cells { AreGivenCells (design_of document.now) document.now.givens }
 {
-    let _ = document.picture.height();
-    let _ = document.givens.has(0, 0);
+    know(document);
     Scene {
         clues: &audit.clues,
         givens: &document.givens,
@@ -92,7 +92,8 @@ pub(crate) fn rule<E: LineEngine>(
     ensures calls { E.calls engine.old ≤ E.calls engine.new }
     ensures same_longest { E.longest engine.new ≡ E.longest engine.old }
 {
-    let _ = (document.picture.height(), engine.calls());
+    know(document);
+    let _ = engine.calls();
     let scene = scene_of(document, audit);
     let mut work = NO_WORK;
     let judged = keeper.judge(
@@ -158,7 +159,7 @@ pub(crate) fn other_kept<'a>(
         (λ other. FirstFilling keeper.now other.now
         × IsOtherFor (design_of document.now) other.now) }
 {
-    let _scene = scene_of(document, audit);
+    know(document);
     keeper.other()
 }
 

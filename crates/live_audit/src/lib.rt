@@ -2,6 +2,7 @@
 #![tactic(auto)]
 
 mod assessing;
+mod audit;
 mod bench;
 mod certifying;
 mod judging;

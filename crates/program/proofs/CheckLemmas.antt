@@ -9,8 +9,6 @@ use Rattle.command_line.specs.declared.words.Task.{Task}
 use Rattle.command_line.specs.declared.words.Task.TheVariants.{Check}
 use Rattle.text_check.specs.Check.{IsLemmaProofOf, IsOnlyPicture, IsProofOf}
 use Rattle.answers.specs.Check.{IsCheckOf, WritesBy}
-use Rattle.text_check.specs.Published.{IsOnlyPublished, IsPublishedProofOf}
-use Rattle.answers.specs.Published.{IsPublishedCheckOf}
 use Rattle.program.specs.Files.{HasFailed, Held, IsContent, IsUnreadFile}
 use Rattle.program.specs.Work.{CarriesOut, IsCheckedWith, IsHalfRead, IsWithoutGivens}
 use Rattle.program.specs.World.{World, world}
@@ -68,9 +66,9 @@ pub checked : (held later : List ℕ → Held) (opened between after : Texts) (f
     (file cert_bytes seen cert_seen : List ℕ) (r : Result (Unit {0}) ProgramFault)
     → task ≡ Check path cert None background → AreBoth held later opened between after faults mid path.now cert.now file → IsContent (later cert.now) cert_bytes → last ≡ mid → seen ≡ file
     → cert_seen ≡ cert_bytes
-    → WritesBy output written r (IsCheckOf seen background cert_seen) → (IsProofOf seen background cert_seen → IfErr r (λ e. (e ≡ Memory) ⊎ (e ≡ Write)))
-    → (IsLemmaProofOf seen background cert_seen → IfErr r (λ e. (e ≡ Memory) ⊎ (e ≡ Write)))
-    → OnOk r (IsOnlyPicture seen background cert_seen)
+    → WritesBy output written r (IsCheckOf seen background None cert_seen) → (IsProofOf seen background None cert_seen → IfErr r (λ e. (e ≡ Memory) ⊎ (e ≡ Write)))
+    → (IsLemmaProofOf seen background None cert_seen → IfErr r (λ e. (e ≡ Memory) ⊎ (e ≡ Write)))
+    → OnOk r (IsOnlyPicture seen background None cert_seen)
     → CarriesOut held (world opened faults input output) (world after last input written) task r
 checked held later opened between after faults mid last input output written task path cert background file cert_bytes seen cert_seen r is both certificate faultless same cert_same writes only
     only_lemmas unique =
@@ -145,10 +143,11 @@ module _ (held later latest : List ℕ → Held) (opened one two three : Texts) 
 
     pub checked_with : (written : Option (List ℕ)) (given_bytes seen cert_seen given_seen : List ℕ) (r : Result (Unit {0}) ProgramFault)
         → IsContent (latest givens.now) given_bytes → last ≡ end → seen ≡ file → cert_seen ≡ cert_bytes → given_seen ≡ given_bytes
-        → WritesBy output written r (IsPublishedCheckOf seen background given_seen cert_seen)
-        → (IsPublishedProofOf seen background given_seen cert_seen → IfErr r (λ e. (e ≡ Memory) ⊎ (e ≡ Write))) → OnOk r (IsOnlyPublished seen background given_seen)
+        → WritesBy output written r (IsCheckOf seen background (Some given_seen) cert_seen)
+        → (IsProofOf seen background (Some given_seen) cert_seen → IfErr r (λ e. (e ≡ Memory) ⊎ (e ≡ Write)))
+        → (IsLemmaProofOf seen background (Some given_seen) cert_seen → IfErr r (λ e. (e ≡ Memory) ⊎ (e ≡ Write))) → OnOk r (IsOnlyPicture seen background (Some given_seen) cert_seen)
         → CarriesOut held (world opened faults input output) (world three last input written) task r
-    checked_with written given_bytes seen cert_seen given_seen r content faultless same cert_same given_same writes only unique =
+    checked_with written given_bytes seen cert_seen given_seen r content faultless same cert_same given_same writes only only_lemmas unique =
         let before : World = world opened faults input output in
         let behind : World = world three last input written in
         let here : CarriesOut held before behind (Check path cert (Some givens) background) r = inr (inr (inr (record {
@@ -163,6 +162,7 @@ module _ (held later latest : List ℕ → Held) (opened one two three : Texts) 
           input = keeps_same input;
           writes = writes;
           only = only;
+          only_lemmas = only_lemmas;
           unique = unique;
         }))) in
         subst (λ (t : Task). CarriesOut held before behind t r) (sym task_is) here

@@ -15,8 +15,6 @@ use Rattle.program_options.specs.declared.options.ProveOptions.{ProveOptions}
 use Rattle.text_check.specs.Check.{IsLemmaProofOf, IsOnlyPicture, IsProofOf}
 use Rattle.answers.specs.Check.{IsCheckOf, WritesBy}
 use Rattle.answers.specs.Prove.{IsProveOf, WritesProof}
-use Rattle.text_check.specs.Published.{IsOnlyPublished, IsPublishedProofOf}
-use Rattle.answers.specs.Published.{IsPublishedCheckOf}
 use Rattle.program_options.specs.Faults.{session_fault_of}
 use Rattle.answers.specs.Open.{OpensFile}
 use Rattle.answers.specs.Run.{Writes, shown}
@@ -110,10 +108,10 @@ pub record IsChecked (picture certificate : Held) (path cert_path : List ℕ) (b
   pub names : after.opened ≡ before.opened ++ path ∷ cert_path ∷ []
   pub faultless : after.faults ≡ before.faults
   pub input : Keeps before.input after.input
-  pub writes : WritesBy before.output after.output r (IsCheckOf file background cert)
-  pub only : IsProofOf file background cert → IfErr r (λ e. (e ≡ Memory) ⊎ (e ≡ Write))
-  pub only_lemmas : IsLemmaProofOf file background cert → IfErr r (λ e. (e ≡ Memory) ⊎ (e ≡ Write))
-  pub unique : OnOk r (IsOnlyPicture file background cert)
+  pub writes : WritesBy before.output after.output r (IsCheckOf file background None cert)
+  pub only : IsProofOf file background None cert → IfErr r (λ e. (e ≡ Memory) ⊎ (e ≡ Write))
+  pub only_lemmas : IsLemmaProofOf file background None cert → IfErr r (λ e. (e ≡ Memory) ⊎ (e ≡ Write))
+  pub unique : OnOk r (IsOnlyPicture file background None cert)
 
 -- The check of three files by their bytes, of which the last names the givens that are published. The input is left
 -- alone.
@@ -128,9 +126,10 @@ pub record IsCheckedWith (picture certificate published : Held) (path cert_path 
   pub names : after.opened ≡ before.opened ++ path ∷ cert_path ∷ givens_path ∷ []
   pub faultless : after.faults ≡ before.faults
   pub input : Keeps before.input after.input
-  pub writes : WritesBy before.output after.output r (IsPublishedCheckOf file background givens cert)
-  pub only : IsPublishedProofOf file background givens cert → IfErr r (λ e. (e ≡ Memory) ⊎ (e ≡ Write))
-  pub unique : OnOk r (IsOnlyPublished file background givens)
+  pub writes : WritesBy before.output after.output r (IsCheckOf file background (Some givens) cert)
+  pub only : IsProofOf file background (Some givens) cert → IfErr r (λ e. (e ≡ Memory) ⊎ (e ≡ Write))
+  pub only_lemmas : IsLemmaProofOf file background (Some givens) cert → IfErr r (λ e. (e ≡ Memory) ⊎ (e ≡ Write))
+  pub unique : OnOk r (IsOnlyPicture file background (Some givens) cert)
 
 -- What is shown for the picture in a file by its bytes: a certificate, or a word in its place. The input is left alone.
 pub record IsProving (held : Held) (path : List ℕ) (options : ProveOptions) (before after : World)

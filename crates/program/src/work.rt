@@ -8,10 +8,7 @@ ghost use Rattle.program.specs.World.{world};
 use crate::assessing::assess_files;
 use crate::files::{Files, read_file};
 use crate::input::read_input;
-use answers::{
-    Options, ProgramFault, ProveOptions, run_check, run_check_published, run_clues, run_prove,
-    start_bench,
-};
+use answers::{Options, ProgramFault, ProveOptions, run_check, run_clues, run_prove, start_bench};
 use command_line::Task;
 use picture::send;
 use session::run_session;
@@ -51,10 +48,17 @@ pub fn carry_out<F: Files, R: Read, W: Write>(
             let file = read_file(alloc, files, file)?;
             let cert = read_file(alloc, files, cert)?;
             let Some(givens) = givens else {
-                return run_check(alloc, &file, &cert, *background, writer);
+                return run_check(alloc, &file, &cert, None, *background, writer);
             };
             let givens = read_file(alloc, files, givens)?;
-            run_check_published(alloc, &file, &cert, &givens, *background, writer)
+            run_check(
+                alloc,
+                &file,
+                &cert,
+                Some(givens.as_slice()),
+                *background,
+                writer,
+            )
         }
         Task::Prove {
             file,

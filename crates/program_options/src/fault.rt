@@ -7,13 +7,12 @@ ghost use Rattle.program_options.specs.Faults.{cert_fault_of, check_fault_of, fa
 use cert_text::CertFault;
 use command_text::SessionFault;
 use edits::EditFault;
-use givens_text::GivensFault;
 use non_text::NonFault;
 use picture::WriteFault;
 use ppm_text::PpmFault;
 use std::alloc::AllocError;
 use std::fmt;
-use text_check::CheckFault;
+use text_check::{CheckFault, GivensFault};
 
 /// Why the program ends with a status other than 0. `Display` gives its message, and `status` the exit status.
 #[derive(Debug, PartialEq, Eq, Drop)]

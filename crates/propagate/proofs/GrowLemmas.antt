@@ -27,8 +27,10 @@ use Rattle.picture.proofs.LineSetLaws.{put_all_counts}
 use Rattle.line_facts.proofs.GridLaws.{same_has_line, shape_sym, shape_trans}
 use Rattle.line_facts.proofs.FitLaws.{counting_adds, tighter_fits, within_tighter}
 use Rattle.fixpoint.proofs.ClosingLaws.{Closing, closing_ends, closing_goes_on, within_trans}
-use Rattle.worklist.proofs.NameLaws.{take_counts}
-use Rattle.fixpoint.proofs.WorkLaws.{crossing_put, left_to_do, less_to_do, nothing_counted}
+use Rattle.fixpoint.proofs.NameLaws.{take_counts}
+use Rattle.fixpoint.specs.LeftToDo.{left_to_do}
+use Rattle.fixpoint.proofs.LeftLaws.{less_to_do}
+use Rattle.fixpoint.proofs.WorkLaws.{crossing_put, nothing_counted}
 
 -- ---- growing
 

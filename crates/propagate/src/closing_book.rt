@@ -1,6 +1,6 @@
 //! Propagating a book to the fixpoint of all lines, by a step each time a line draws something.
 
-ghost use Rattle.std.specs.Prelude.{◌≡◌, IfOk};
+ghost use Rattle.std.specs.Prelude.{◌≡◌, ◌≤◌, IfOk};
 ghost use Rattle.justify.specs.Book.{AreTrimmed, IsDerivation};
 ghost use Rattle.fixpoint.specs.ClosedFacts.{AreClosable, QuietOutside};
 ghost use Rattle.propagate.specs.ClosingBooks.{BookWorks, ClosesBook};
@@ -8,11 +8,10 @@ ghost use Rattle.fixpoint.specs.LineNames.{AreLinesOf};
 
 use crate::turn::take_turn;
 use clues::ClueBook;
-use fixpoint::CloseFault;
+use fixpoint::{Agenda, CloseFault};
 use justify::Book;
 use line_facts::{LineEngine, Meter};
 use picture::LineSet;
-use worklist::Agenda;
 
 /// Appends steps to a book until no line forces more: its facts are then the least closed ones over its base. The book
 /// has to be a derivation from the clues, and every line that is not in `dirty` quiet under its facts: it forces
@@ -33,6 +32,7 @@ pub fn close<E: LineEngine, A: Agenda>(
     ensures closes { ClosesBook clues.now book result }
     ensures works { BookWorks dirty.now book result meter.old meter.new (E.calls engine.old)
         (E.calls engine.new) }
+    ensures calls { E.calls engine.old ≤ E.calls engine.new }
     ensures trimmed { AreTrimmed clues.now book → IfOk result (AreTrimmed clues.now) }
     ensures same_longest { E.longest engine.new ≡ E.longest engine.old }
 {

@@ -7,6 +7,7 @@ mod schedule;
 mod turn;
 
 pub use closing_book::close;
-pub use fixpoint::{CloseFault, all_lines, close_facts, settle_afresh};
+pub use fixpoint::{
+    Agenda, CloseFault, InOrder, NewestFirst, all_lines, close_facts, settle_afresh,
+};
 pub use schedule::run_schedule;
-pub use worklist::{Agenda, InOrder, NewestFirst};

@@ -1,3 +1,4 @@
+pub mod JoinLemmas
 pub mod ReportLemmas
 pub mod RoomLemmas
 pub mod ShownLemmas

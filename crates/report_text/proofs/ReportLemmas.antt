@@ -11,7 +11,7 @@ use Rattle.picture.specs.Rows.{cell_at, width_of}
 use Rattle.clues.specs.ClueBook.{Clues}
 use Rattle.line_facts.specs.Masks.{Masks}
 use Rattle.edits.specs.Design.{Design, grid, mark_at, marks_of}
-use Rattle.report_text.specs.Report.{audit_text, colour_line, colour_lines, document_text, shown_given, givens_in, row_givens}
+use Rattle.report_text.specs.Report.{audit_text, colour_line, colour_lines, document_text, shown_given, givens_in, palette_line, palette_lines, row_givens}
 use Rattle.report_text.proofs.ShownLemmas.{next_range}
 
 -- all that comes before the ending
@@ -28,6 +28,14 @@ colours_none triples = refl
 pub colours_more : (triples : List Rgb) (k : ℕ) → colour_lines triples (k + 1) ≡ colour_lines triples k ++ colour_line k (triple_at triples k)
 unfolding colour_lines
 colours_more triples k = flat_more (λ n. colour_line n (triple_at triples n)) k
+
+pub palette_none : (triples : List Rgb) → palette_lines triples 0 ≡ []
+unfolding palette_lines
+palette_none triples = refl
+
+pub palette_more : (triples : List Rgb) (k : ℕ) → palette_lines triples (k + 1) ≡ palette_lines triples k ++ palette_line k (triple_at triples k)
+unfolding palette_lines
+palette_more triples k = flat_more (λ n. palette_line n (triple_at triples n)) k
 
 pub givens_none : (d : Design) → givens_in d 0 ≡ []
 unfolding givens_in

@@ -1,4 +1,8 @@
+pub mod AssessmentText
 pub mod ClueText
+pub mod GradeText
+pub mod Numbers
+pub mod PathText
 pub mod ReasonText
 pub mod Report
 pub mod Room

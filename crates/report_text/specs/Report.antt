@@ -20,6 +20,18 @@ colour_line k t = letter k ∷ 32 ∷ (number_text t.r 32 ++ (number_text t.g 32
 unfoldable pub colour_lines : List Rgb → ℕ → List ℕ
 colour_lines triples n = flat_map (λ k. colour_line k (triple_at triples k)) (range_with_len 0 n)
 
+-- the word `colour`, a colour's letter and its triple
+abbrev pub palette_line : ℕ → Rgb → List ℕ
+palette_line k t = codes "colour " ++ colour_line k t
+
+-- such a line for each of the first n colours
+unfoldable pub palette_lines : List Rgb → ℕ → List ℕ
+palette_lines triples n = flat_map (λ k. palette_line k (triple_at triples k)) (range_with_len 0 n)
+
+-- which colour each letter is: a line for each colour, the background first
+abbrev pub palette_text : Colours → List ℕ
+palette_text c = palette_lines c.triples (length c.triples)
+
 -- how many colours there are, the largest sample, and a line for each colour
 abbrev pub colours_text : Colours → List ℕ
 colours_text c = codes "colours " ++ (number_text (length c.triples) 32

@@ -1,14 +1,13 @@
 //! Clues as text, a line for each row and column.
 
-ghost use Rattle.std.specs.Prelude.{◌≡◌, ◌+◌, ◌++◌, decimal, length, IfOk, OnOk};
+ghost use Rattle.std.specs.Prelude.{◌≡◌, ◌+◌, ◌++◌, IfOk, OnOk};
 ghost use Rattle.std.specs.List.{flat_map};
 ghost use Rattle.clues.specs.Clue.{IsBlock, IsClue};
 ghost use Rattle.clues.specs.ClueBook.{clues_along};
-ghost use Rattle.report_text.specs.Room.{TakesRoom};
 ghost use Rattle.report_text.specs.ClueText.{behind, block_text, blocks_text, letter_of, numbered_clue, numbered_clues, clues_text, name_text};
 
+use crate::numbers::push_number;
 use clues::{Block, ClueBook};
-use itoa::Buffer;
 use picture::{Axis, LineId};
 use std::alloc::{AllocError, Global};
 
@@ -51,7 +50,7 @@ pub(crate) fn push_name(text: &mut Vec<u8>, line: LineId) -> Result<(), AllocErr
 }
 
 // `r` for a row and `c` for a column.
-fn letter_of(axis: Axis) -> u8
+pub(crate) fn letter_of(axis: Axis) -> u8
     ensures { result ≡ letter_of axis }
 {
     match axis {
@@ -107,27 +106,4 @@ fn push_block(text: &mut Vec<u8>, block: Block) -> Result<(), AllocError>
 {
     push_number(text, usize::from(block.len))?;
     Ok(text.push(b'a' - 1 + block.colour)?)
-}
-
-#[tactic(auto, using(std::proofs::lemmas::Fmt::decimal_digit))]
-/// Appends a number to a text, in decimal without leading zeros. Where memory is refused, a part may have been
-/// appended.
-// Most numbers have one digit, so the longer ones are left to a function that is not inlined.
-pub fn push_number(text: &mut Vec<u8>, number: usize) -> Result<(), AllocError>
-    ensures items { OnOk result (text.new.items ≡ text.old.items ++ decimal number) }
-    ensures room { TakesRoom text.old text.new (length (decimal number)) result }
-{
-    if number < 10 {
-        return Ok(text.push(b'0' + number as u8)?);
-    }
-    push_digits(text, number)
-}
-
-#[inline(never)]
-// A number of any length.
-fn push_digits(text: &mut Vec<u8>, number: usize) -> Result<(), AllocError>
-    ensures items { OnOk result (text.new.items ≡ text.old.items ++ decimal number) }
-    ensures room { TakesRoom text.old text.new (length (decimal number)) result }
-{
-    text.extend_from_slice(Buffer::new().format(number).as_bytes())
 }

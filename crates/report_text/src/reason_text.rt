@@ -4,7 +4,8 @@ ghost use Rattle.std.specs.Prelude.{◌≡◌, ◌∷◌, ◌++◌, [], decimal,
 ghost use Rattle.std.specs.List.{flat_map};
 ghost use Rattle.report_text.specs.ReasonText.{letters_left, premise_text, premises_text, reason_text};
 
-use crate::clue_text::{push_name, push_number};
+use crate::clue_text::push_name;
+use crate::numbers::push_number;
 use crate::shown::{has_colour, letter_of};
 use justify::{Premise, Reason};
 use picture::MAX_COLOURS;
@@ -25,7 +26,7 @@ pub fn push_reason(text: &mut Vec<u8>, reason: &Reason) -> Result<(), AllocError
 
 /// Appends premises to a text, where there are some, as ` given 1=a 3=.b`: of each the place, from 1, and the letters left there.
 /// Where memory is refused, a part may have been appended.
-pub fn push_premises(text: &mut Vec<u8>, premises: &[Premise]) -> Result<(), AllocError>
+pub(crate) fn push_premises(text: &mut Vec<u8>, premises: &[Premise]) -> Result<(), AllocError>
     ensures { OnOk result (text.new.items ≡ text.old.items ++ premises_text premises.now) }
 {
     if premises.is_empty() {

@@ -7,7 +7,8 @@ ghost use Rattle.edits.specs.Design.{design_of};
 ghost use Rattle.report_text.specs.Room.{TakesRoom};
 ghost use Rattle.report_text.specs.Report.{audit_text, colour_line, colour_lines, colours_text, document_text, ending_text, givens_in, open_cells, row_givens, shown_given};
 
-use crate::clue_text::{push_clues, push_number};
+use crate::clue_text::push_clues;
+use crate::numbers::push_number;
 use crate::shown::{letter_of, push_map, push_picture};
 use clues::ClueBook;
 use line_facts::Facts;
@@ -91,7 +92,7 @@ fn push_triples(text: &mut Vec<u8>, palette: &Palette) -> Result<(), AllocError>
 
 #[tactic(auto, using(std::proofs::lemmas::List::append_assoc))]
 // A colour's letter and its triple.
-fn push_colour(text: &mut Vec<u8>, number: u8, rgb: Rgb) -> Result<(), AllocError>
+pub(crate) fn push_colour(text: &mut Vec<u8>, number: u8, rgb: Rgb) -> Result<(), AllocError>
     requires { number < 16 }
     ensures { OnOk result (text.new.items ≡ text.old.items ++ colour_line number rgb) }
 {

@@ -1,6 +1,6 @@
 //! Pictures and maps as text, a line for each row.
 
-ghost use Rattle.std.specs.Prelude.{◌≡◌, ◌<◌, ◌+◌, ◌++◌, ◌==◌, length, map, OnOk};
+ghost use Rattle.std.specs.Prelude.{◌≡◌, ◌<◌, ◌+◌, ◌%◌, ◌++◌, ◌==◌, length, map, OnOk};
 ghost use Rattle.std.specs.Int.{bit_at};
 ghost use Rattle.std.specs.List.{flat_map};
 ghost use Rattle.picture.specs.Rows.{row_at, width_of};
@@ -8,7 +8,7 @@ ghost use Rattle.report_text.specs.Room.{TakesRoom, picture_room};
 ghost use Rattle.report_text.specs.Shown.{letter, map_text, mask_letter, picture_text, shown_row};
 
 use line_facts::Facts;
-use picture::{MAX_SIDE, Picture};
+use picture::{MAX_COLOURS, MAX_SIDE, Picture};
 use std::alloc::AllocError;
 
 // The letter of a colour.
@@ -17,6 +17,13 @@ pub(crate) fn letter_of(colour: u8) -> u8
     ensures { result ≡ letter colour }
 {
     if colour == 0 { b'.' } else { b'a' - 1 + colour }
+}
+
+/// The letter of a colour, which is one of sixteen.
+pub(crate) fn colour_letter(colour: u8) -> u8
+    ensures { result ≡ letter (colour % 16) }
+{
+    letter_of(colour % MAX_COLOURS)
 }
 
 #[tactic(auto, using(crate::proofs::ShownLemmas::lowest_of_one))]

@@ -5,10 +5,10 @@
 
 use anyhow::{Context, Result};
 use assess::{Assessment, assess, assess_by};
-use assess_text::push_assessment;
 use certificate::make_cert;
 use line_settle::MaskEngine;
 use picture::MAX_SIDE;
+use report_text::push_assessment;
 use std::alloc::Global;
 use table_words::document_in;
 

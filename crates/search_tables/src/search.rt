@@ -8,12 +8,11 @@ ghost use Rattle.second_search.specs.Parts.{AreParts, IsScene};
 
 use anyhow::{Result, ensure};
 use clues::ClueBook;
-use fixpoint::settle_afresh;
+use fixpoint::{InOrder, settle_afresh};
 use line_facts::{Facts, LineEngine, NOTHING_DONE};
 use picture::{Document, Picture};
 use second_search::{Judged, Keeper, Scene, laws};
 use std::alloc::Global;
-use worklist::InOrder;
 
 /// The verdict on a picture.
 #[derive(Drop)]

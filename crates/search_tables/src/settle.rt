@@ -4,12 +4,11 @@ ghost use Rattle.std.specs.Prelude.{◌≤◌};
 
 use anyhow::{Result, bail, ensure};
 use clues::ClueBook;
-use fixpoint::{CloseFault, settle_afresh};
+use fixpoint::{Agenda, CloseFault, InOrder, NewestFirst, settle_afresh};
 use line_facts::{Facts, LineEngine, NOTHING_DONE};
 use line_settle::{MaskEngine, PlainEngine};
 use picture::MAX_SIDE;
 use std::alloc::Global;
-use worklist::{Agenda, InOrder, NewestFirst};
 
 /// How many evaluations settling took, and the settled facts, or None where some line has no list that fits it.
 #[derive(Drop)]

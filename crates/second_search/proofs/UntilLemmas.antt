@@ -1,12 +1,15 @@
 -- How often the engine is called at most while trees are written within a bound.
-use Rattle.std.proofs.Common.{◌≡◌, ℕ, ◌+◌, ◌*◌, ◌<◌, ◌≤◌, Option, Some, length, max, ap, arith}
+use Rattle.std.proofs.Common.{◌≡◌, ℕ, ◌+◌, ◌*◌, ◌<◌, ◌≤◌, Option, None, Some, false, is_some, length, max, ap, arith}
+use Rattle.std.specs.Prelude.{IfNone}
 use Rattle.std.proofs.Math.Nat.{mul-le-mul_right}
 use Rattle.picture.specs.Rows.{width_of, Rows}
 use Rattle.clues.specs.ClueBook.{Clues}
+use Rattle.line_facts.specs.Counts.{counted}
 use Rattle.line_facts.specs.Masks.{Masks}
+use Rattle.second_search.specs.declared.ladder.Decided.{Decided}
 use Rattle.second_search.specs.declared.tree.Growing.{Growing}
 use Rattle.second_search.specs.declared.tree_lines.Lines.{Lines}
-use Rattle.second_search.specs.Evaluations.{AreFewUntil, last_call, most_in_tree}
+use Rattle.second_search.specs.Evaluations.{AreFewUntil, IsBrokenOff, last_call, most_in_tree}
 use Rattle.second_search.proofs.TreeLemmas.{Said, shape_said}
 
 -- a turn on a branch, after calls that do not exceed the number
@@ -24,6 +27,19 @@ pub within_bound : (way : Option ℕ) (facts : Masks) (bound until before after 
 unfolding most_in_tree
 within_bound way facts bound until before after e u few =
     let same : last_call way ≡ until = ap last_call e in
+    omega arith
+
+-- where nothing is decided, a tree was broken off
+pub none_broken : (way : Option ℕ) (calls : ℕ) (found : Option Decided) → is_some found ≡ false → IfNone found (IsBrokenOff way calls) → IsBrokenOff way calls
+none_broken way calls None none over = over
+none_broken way calls (Some decided) none over = absurd (cc none)
+
+-- a tree that is broken off there, after some that have reached the bound
+pub one_reached : (way : Option ℕ) (i bound until before between after : ℕ) → way ≡ Some until → until ≡ counted between bound → counted before (i * bound) ≤ between
+    → IsBrokenOff way after → counted before ((i + 1) * bound) ≤ after
+one_reached way i bound until before between after w u b over =
+    let same : last_call way ≡ until = ap last_call w in
+    let reached = over.1 in
     omega arith
 
 pub one_more : (i most before between after : ℕ) → between ≤ before + i * most → after ≤ between + most → after ≤ before + (i + 1) * most

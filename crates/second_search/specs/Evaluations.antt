@@ -1,5 +1,6 @@
 -- How many lines a judgement evaluates at most under an allowance.
 use Rattle.std.specs.Prelude.{◌≡◌, ℕ, ◌+◌, ◌-◌, ◌*◌, ◌^◌, ◌≤◌, Option, None, Some, [], ◌∷◌, length, max, refl}
+use Rattle.line_facts.specs.Counts.{counted}
 use Rattle.line_facts.specs.Masks.{Masks}
 use Rattle.picture.specs.Rows.{width_of}
 
@@ -25,6 +26,15 @@ last_call (Some until) = until
 -- Once the engine has counted so many calls, it is called at most once more for each line.
 abbrev pub AreFewUntil : Option ℕ → Masks → ℕ → ℕ → Type 0
 AreFewUntil until facts before after = after ≤ max before (last_call until) + (length facts + width_of facts)
+
+-- a tree is broken off only where a number of the engine's calls is set for it, and once they have reached that
+abbrev pub IsBrokenOff : Option ℕ → ℕ → Type 0
+IsBrokenOff until calls = (until ≡ None → ⊥) × (last_call until ≤ calls)
+
+-- Both of two trees have reached a bound of evaluations: the engine was called so often for each, or its count of calls
+-- can rise no more.
+abbrev pub BothReach : ℕ → ℕ → ℕ → Type 0
+BothReach bound before after = counted before (2 * bound) ≤ after
 
 -- A tree within a bound of evaluations takes at most one more for each line.
 unfoldable pub most_in_tree : Masks → ℕ → ℕ

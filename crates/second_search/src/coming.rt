@@ -11,12 +11,11 @@ ghost use Rattle.second_search.specs.Evaluations.{most_to_close};
 
 use crate::looking::{first_unsettled, shown_on};
 use clues::ClueBook;
-use fixpoint::close_naming;
+use fixpoint::{InOrder, close_naming};
 use line_facts::{Facts, LineEngine, Outcome};
 use picture::{LineSet, Picture};
 use std::alloc::AllocError;
 use trail::Cell;
-use worklist::InOrder;
 
 // The outcome of closing facts: no list fits some line, or they leave one picture, or a cell is to be split.
 #[derive(Drop)]

@@ -1,8 +1,8 @@
 //! The ladder: trees that choose their cells in one way and the other in turn, each broken off at a bound that grows.
 
-ghost use Rattle.std.specs.Prelude.{◌≡◌, ◌+◌, ◌*◌, ◌≤◌, IfOk, IfSome};
+ghost use Rattle.std.specs.Prelude.{◌≡◌, ◌+◌, ◌*◌, ◌≤◌, IfNone, IfOk, IfSome};
 ghost use Rattle.fixpoint.specs.ClosedFacts.{AreClosable};
-ghost use Rattle.second_search.specs.Evaluations.{most_in_tree};
+ghost use Rattle.second_search.specs.Evaluations.{BothReach, most_in_tree};
 ghost use Rattle.second_search.specs.Trees.{Decides};
 
 use crate::bounds::LONGER;
@@ -76,7 +76,7 @@ pub fn climb<E: LineEngine>(
 
 /// Writes a tree by each of the two ways of `climb`, within a bound of evaluations for each, which a tree that is broken off
 /// exceeds by no more than one for each line. A tree is skipped if `spent` exceeds the bound, which is then subtracted from
-/// `spent`. None where both were skipped or broken off.
+/// `spent`. None only if both were skipped or broken off; each that is broken off has reached the bound.
 pub fn take_turn<E: LineEngine>(
     alloc: Global,
     engine: &mut E,
@@ -89,6 +89,8 @@ pub fn take_turn<E: LineEngine>(
     ensures decides { IfOk result (λ found. IfSome found
         (Decides scene.now.clues.now scene.now.picture.now scene.now.facts.now ladder.keeps)) }
     ensures calls { E.calls engine.old ≤ E.calls engine.new }
+    ensures reached { spent.old ≤ bound → IfOk result (λ found.
+        IfNone found (BothReach bound (E.calls engine.old) (E.calls engine.new))) }
     ensures few { E.calls engine.new
         ≤ E.calls engine.old + 2 * most_in_tree scene.now.facts.now bound }
     ensures same_longest { E.longest engine.new ≡ E.longest engine.old }

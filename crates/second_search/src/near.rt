@@ -13,11 +13,10 @@ use crate::counting::{Ending, Searched, Start, search_counted};
 use crate::part_search::{facts_on, lines_through, put_both};
 use crate::parts::Parts;
 use crate::scene::Scene;
-use fixpoint::{CloseFault, settle_afresh};
+use fixpoint::{CloseFault, InOrder, settle_afresh};
 use line_facts::{Facts, LineEngine, NOTHING_DONE};
 use picture::{Axis, CellSet, LineId, LineSet, MAX_SIDE, Picture};
 use std::alloc::{AllocError, Global};
-use worklist::InOrder;
 
 /// How many of a part's rows and columns a window has at most, in the order in which the sizes are tried.
 pub(crate) const SIZES: [u8; 5] = [4, 7, 11, 16, 24];

@@ -1,9 +1,9 @@
 //! The search that writes a tree, whose lines may be kept or dropped. Each line is valid where it is written; the choice of cells
 //! to split is free.
 
-ghost use Rattle.std.specs.Prelude.{◌≡◌, ◌≤◌, None, IfOk, IfSome, IsFalse, IsNone, IsTrue};
+ghost use Rattle.std.specs.Prelude.{◌≡◌, ◌≤◌, IfNone, IfOk, IfSome, IsFalse, IsTrue};
 ghost use Rattle.fixpoint.specs.ClosedFacts.{AreClosable};
-ghost use Rattle.second_search.specs.Evaluations.{AreFewUntil, last_call};
+ghost use Rattle.second_search.specs.Evaluations.{AreFewUntil, IsBrokenOff, last_call};
 ghost use Rattle.second_search.specs.Trees.{Advances, AreNone, Decides, Turns};
 
 use crate::ladder::Decided;
@@ -26,8 +26,8 @@ pub(crate) struct Growing {
     pub due: LineSet,
 }
 
-// Writes a tree in one way from the facts of a scene, or finds a picture other than the scene's. None where it was broken off. The
-// scene's picture need not have the clues.
+// Writes a tree in one way from the facts of a scene, or finds a picture other than the scene's. None only if it was broken off,
+// since the engine's calls have reached the way's. The scene's picture need not have the clues.
 pub(crate) fn write_tree<E: LineEngine>(
     alloc: Global,
     engine: &mut E,
@@ -38,7 +38,8 @@ pub(crate) fn write_tree<E: LineEngine>(
     requires { AreClosable scene.now.clues.now (E.longest engine.old) scene.now.facts.now }
     ensures decides { IfOk result (λ found. IfSome found
         (Decides scene.now.clues.now scene.now.picture.now scene.now.facts.now keeps)) }
-    ensures broken_off { IfOk result (λ found. IsNone found → way.until ≡ None → ⊥) }
+    ensures broken_off { IfOk result (λ found.
+        IfNone found (IsBrokenOff way.until (E.calls engine.new))) }
     ensures calls { E.calls engine.old ≤ E.calls engine.new }
     ensures few { AreFewUntil way.until scene.now.facts.now (E.calls engine.old)
         (E.calls engine.new) }
@@ -80,7 +81,7 @@ fn no_lines(alloc: Global, keeps: bool) -> Lines
 
 // Whether the engine was called so often that the tree is broken off.
 fn is_over(way: Way, calls: u64) -> bool
-    ensures endless { IsTrue result → way.until ≡ None → ⊥ }
+    ensures over { IsTrue result → IsBrokenOff way.until calls }
     ensures before { IsFalse result → calls ≤ last_call way.until }
 {
     match way.until {

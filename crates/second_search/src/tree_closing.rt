@@ -11,10 +11,10 @@ ghost use Rattle.second_search.specs.Trees.{Settles};
 use crate::tree_lines::{Lines, line_number};
 use cert_text::CertLine;
 use clues::ClueBook;
+use fixpoint::{Agenda, InOrder};
 use line_facts::{Facts, Forced, LineEngine, Outcome, force_crossing};
 use picture::{LineId, LineSet};
 use std::alloc::AllocError;
-use worklist::{Agenda, InOrder};
 
 // More lines are never due on one branch: each evaluation of a line after its first follows the exclusion of a colour.
 const MOST_LINES: u32 = 100_000_000;

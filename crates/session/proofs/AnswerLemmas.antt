@@ -22,7 +22,7 @@ use Rattle.live_audit.specs.declared.why.Why.{Why}
 use Rattle.live_audit.specs.Bench.{IsAudited, Seen}
 use Rattle.grade.specs.declared.pathing.Path.{Path}
 use Rattle.assess.specs.declared.assessment.Assessment.{Assessment}
-use Rattle.assess_text.specs.AssessmentText.{assessment_text}
+use Rattle.report_text.specs.AssessmentText.{assessment_text}
 use Rattle.live_audit.specs.Assessing.{IsAssessmentOf, IsPathOf}
 use Rattle.live_audit.specs.Calls.{Accepts, IsAsBefore, Learns, Refuses}
 use Rattle.live_audit.specs.Certify.{Certifies}

@@ -32,7 +32,7 @@ use Rattle.command_text.specs.Lines.{ended_lines_of, lines_of, request_of}
 use Rattle.command_text.specs.Words.{Texts}
 use Rattle.session.specs.Allowing.{assess_allowance}
 use Rattle.session.specs.Refusal.{edit_line, memory_line, refused}
-use Rattle.assess_text.specs.AssessmentText.{assessment_text}
+use Rattle.report_text.specs.AssessmentText.{assessment_text}
 use Rattle.session.specs.Texts.{certified_text, content, done_text, path_shown, verdict_text, verdict_word, why_text}
 use Rattle.report_text.specs.Report.{report_text}
 use Rattle.report_text.specs.Shown.{map_text}

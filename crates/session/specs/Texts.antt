@@ -10,7 +10,7 @@ use Rattle.live_audit.specs.declared.verdict.Verdict.TheVariants.{Unique, Ambigu
 use Rattle.live_audit.specs.declared.why.Why.{Why}
 use Rattle.live_audit.specs.declared.why.Why.TheVariants.{Possible, Given, By}
 use Rattle.grade.specs.declared.pathing.Path.{Path}
-use Rattle.grade_text.specs.PathText.{path_text}
+use Rattle.report_text.specs.PathText.{path_text}
 use Rattle.report_text.specs.ReasonText.{reason_text}
 use Rattle.report_text.specs.Shown.{picture_text}
 

@@ -15,7 +15,7 @@ use Rattle.line_facts.specs.FactSets.{Excludes, IsLeast, Leaves, SameShape, col_
 use Rattle.justify.specs.declared.premise.Premise.{Premise}
 use Rattle.justify.specs.Exclusions.{CanHaveWithout}
 use Rattle.justify.specs.Premises.{ArePremises, Says, SaysBut}
-use Rattle.kept_audit.specs.Audit.{AreGivens}
+use Rattle.live_audit.specs.Audit.{AreGivens}
 use Rattle.edits.specs.declared.fault.EditFault.{EditFault}
 use Rattle.edits.specs.declared.fault.EditFault.TheVariants.{Memory, Place}
 use Rattle.edits.specs.Design.{Design}
@@ -31,7 +31,7 @@ use Rattle.live_audit.specs.declared.verdict.Verdict.{Verdict}
 use Rattle.live_audit.specs.declared.verdict.Verdict.TheVariants.{Undecided}
 use Rattle.grade.specs.declared.pathing.Path.{Path}
 use Rattle.assess.specs.declared.assessment.Assessment.{Assessment}
-use Rattle.assess_text.specs.AssessmentText.{assessment_text}
+use Rattle.report_text.specs.AssessmentText.{assessment_text}
 use Rattle.live_audit.specs.Assessing.{IsAssessmentOf, IsPathOf}
 use Rattle.live_audit.specs.Calls.{Machine, machine}
 use Rattle.live_audit.specs.Certify.{NamesMarks, ordered}

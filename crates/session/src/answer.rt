@@ -9,11 +9,11 @@ ghost use Rattle.cert_text.specs.Cert.{Certificate};
 ghost use Rattle.command_text.specs.Parse.{IsBounded};
 ghost use Rattle.command_text.specs.declared.command.Command.TheVariants as command;
 ghost use Rattle.command_text.specs.Lines.{AsksBounded};
+ghost use Rattle.report_text.specs.AssessmentText.{assessment_text};
 ghost use Rattle.report_text.specs.Room.{TakesRoom, picture_room};
 ghost use Rattle.report_text.specs.Shown.{map_text, picture_text};
 ghost use Rattle.grade.specs.declared.pathing.Path.{Path};
 ghost use Rattle.assess.specs.declared.assessment.Assessment.{Assessment};
-ghost use Rattle.assess_text.specs.AssessmentText.{assessment_text};
 ghost use Rattle.live_audit.specs.Assessing.{IsAssessmentOf, IsPathOf};
 ghost use Rattle.live_audit.specs.Certify.{Certifies};
 ghost use Rattle.live_audit.specs.Calls.{IsAsBefore, Learns};
@@ -25,11 +25,9 @@ ghost use Rattle.session.specs.Session.{Replies, Says, report_on};
 ghost use Rattle.session.specs.Texts.{certified_text, path_shown, verdict_text, verdict_word, why_text};
 
 use crate::refusal::Refusal;
-use assess_text::push_assessment;
 use certificate::{Cert, write_cert};
 use command_text::{ASSESS_SPLITS, Command, Request};
 use edits::{Edit, EditFault};
-use grade_text::push_path;
 use line_facts::{Facts, LineEngine};
 use live_audit::{Bench, Verdict, Why};
 use non_text::{NonWriteFault, write_non};
@@ -37,8 +35,8 @@ use picture::{Document, Picture};
 use ppm_text::write_ppm;
 use propagate::Agenda;
 use report_text::{
-    ENDING_ROOM, clues_text, push_ending, push_front, push_map, push_number, push_picture,
-    push_reason,
+    ENDING_ROOM, clues_text, push_assessment, push_ending, push_front, push_map, push_number,
+    push_path, push_picture, push_reason,
 };
 use std::alloc::{AllocError, Global};
 

@@ -6,11 +6,11 @@ ghost use Rattle.picture.specs.Rows.{width_of};
 use crate::filling::{fills_all, held_at, is_filled, is_there};
 use crate::puzzle::{Node, Puzzle};
 use clues::ClueBook;
+use fixpoint::{Agenda, InOrder};
 use line_facts::{Facts, LineEngine, Outcome, force_crossing};
 use picture::{LineSet, MAX_COLOURS};
 use std::alloc::AllocError;
 use trail::Cell;
-use worklist::{Agenda, InOrder};
 
 // No trial evaluates more lines, as each colour of each cell is excluded at most once, and no set of lines has more names.
 const MOST_LINES: u32 = 10_000_000;

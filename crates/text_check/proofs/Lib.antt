@@ -1,2 +1,2 @@
 pub mod CheckLemmas
-pub mod PublishedLemmas
+pub mod GivensLemmas

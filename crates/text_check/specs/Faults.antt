@@ -6,7 +6,7 @@ use Rattle.ppm_text.specs.Faults.{name_of, place_of}
 use Rattle.cert_text.specs.declared.fault.CertFault.{CertFault}
 use Rattle.cert_text.specs.declared.fault.CertFault.TheVariants as cert
 use Rattle.cert_text.specs.Faults as certs
-use Rattle.givens_text.specs.Faults as givens
+use Rattle.text_check.specs.GivensFaults as givens
 use Rattle.text_check.specs.declared.fault.CheckFault.{CheckFault}
 use Rattle.text_check.specs.declared.fault.CheckFault.TheVariants.{Ppm, Givens, Cert, Memory}
 

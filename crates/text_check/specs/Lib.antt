@@ -1,3 +1,4 @@
 pub mod Check
 pub mod Faults
-pub mod Published
+pub mod Givens
+pub mod GivensFaults

@@ -4,8 +4,8 @@ ghost use Rattle.std.specs.Prelude.{◌≡◌, Some};
 ghost use Rattle.text_check.specs.declared.fault.CheckFault.TheVariants.{Givens as Refused, Memory};
 ghost use Rattle.text_check.specs.Faults.{cert_fault_of, fault_of, fault_text};
 
+use crate::givens_fault::GivensFault;
 use cert_text::CertFault;
-use givens_text::GivensFault;
 use ppm_text::PpmFault;
 use std::alloc::AllocError;
 use std::fmt;

@@ -164,10 +164,10 @@ orderly_of new ss given e f g a = record {
 
 open_orderly : (file : List ℕ) (options : Options) (old new : Desk) (status handle : ℕ) → Opens file options old new status handle → IsOrderly old → IsOrderly new
 open_orderly file options old new status handle (inl done) o =
-    let bench : Seen = done.1.1.1.1.0 in
-    let next : handle ≡ old.given + 1 = done.1.1.0 in
+    let bench : Seen = done.1.1.1.0 in
+    let next : handle ≡ old.given + 1 = done.1.0 in
     let above_all : old.given < handle = omega (arith, next) in
-    orderly_of new (old.seats.items ++ seat handle bench ∷ []) handle done.1.1.1.1.1.1 done.1.1.1.0
+    orderly_of new (old.seats.items ++ seat handle bench ∷ []) handle done.1.1.1.1.1.0 done.1.1.0
     (given_added old.seats.items old.given handle (seat handle bench) o.given above_all refl) (apart_added old.seats.items old.given (seat handle bench) o.given o.apart above_all)
 open_orderly file options old new status handle (inr refused) o = same_orderly old new refused.1.0 o
 
@@ -214,10 +214,10 @@ over_of handle old new ss l e none o = (omega (arith, l, o.0), subst (λ (xs : L
 
 open_over : (over : ℕ) (file : List ℕ) (options : Options) (old new : Desk) (status handle : ℕ) → Opens file options old new status handle → IsOver over old → IsOver over new
 open_over over file options old new status handle (inl done) o =
-    let bench : Seen = done.1.1.1.1.0 in
-    let next : handle ≡ old.given + 1 = done.1.1.0 in
-    let last : new.given ≡ handle = done.1.1.1.0 in
-    over_of over old new (old.seats.items ++ seat handle bench ∷ []) (omega (arith, next, last)) done.1.1.1.1.1.1
+    let bench : Seen = done.1.1.1.0 in
+    let next : handle ≡ old.given + 1 = done.1.0 in
+    let last : new.given ≡ handle = done.1.1.0 in
+    over_of over old new (old.seats.items ++ seat handle bench ∷ []) (omega (arith, next, last)) done.1.1.1.1.1.0
     (added old.seats.items (seat handle bench) over (λ e. omega (arith, e, next, o.0)) ∙ o.1) o
 open_over over file options old new status handle (inr refused) o = over_kept over old new refused.1.0 o
 
@@ -274,8 +274,8 @@ same_of other old new ss e f = ap (λ (xs : List Seat). bench_of xs other) e ∙
 
 open_same : (other : ℕ) (file : List ℕ) (options : Options) (old new : Desk) (status handle : ℕ) → other ≤ old.given → Opens file options old new status handle → IsSame other old new
 open_same other file options old new status handle l (inl done) =
-    let next : handle ≡ old.given + 1 = done.1.1.0 in
-    same_of other old new (old.seats.items ++ seat handle done.1.1.1.1.0 ∷ []) done.1.1.1.1.1.1 (added old.seats.items (seat handle done.1.1.1.1.0) other (λ e. omega (arith, e, next, l)))
+    let next : handle ≡ old.given + 1 = done.1.0 in
+    same_of other old new (old.seats.items ++ seat handle done.1.1.1.0 ∷ []) done.1.1.1.1.1.0 (added old.seats.items (seat handle done.1.1.1.0) other (λ e. omega (arith, e, next, l)))
 open_same other file options old new status handle l (inr refused) = same_of other old new old.seats.items refused.1.0.0 refl
 
 say_same : (other : ℕ) (at : Option ℕ) (handle : ℕ) (lines : List ℕ) (old new : Desk) (status : ℕ) → place_of old.seats.items handle ≡ at → handle ≢ other → SaysAt at lines old new status

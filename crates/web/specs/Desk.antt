@@ -5,19 +5,18 @@ use Rattle.picture.specs.declared.rgb.Rgb.{Rgb}
 use Rattle.live_audit.specs.Bench.{Seen}
 use Rattle.command_text.specs.declared.session_fault.SessionFault.{SessionFault}
 use Rattle.session.specs.Session.{Runs}
+use Rattle.report_text.specs.Report.{palette_text}
 use Rattle.program_options.specs.declared.fault.ProgramFault.{ProgramFault}
 use Rattle.program_options.specs.declared.assessing.AssessOptions.{AssessOptions}
 use Rattle.program_options.specs.declared.options.Options.{Options}
 use Rattle.answers.specs.declared.assessing.Block.{Block}
 use Rattle.answers.specs.Assess.{Assesses}
 use Rattle.program_options.specs.declared.options.ProveOptions.{ProveOptions}
-use Rattle.text_check.specs.Check.{IsOnlyPicture}
+use Rattle.text_check.specs.Check.{AreGivensOf, IsOnlyPicture}
 use Rattle.answers.specs.Check.{IsCheckOf}
 use Rattle.program_options.specs.Faults.{fault_text, status_of}
 use Rattle.answers.specs.Open.{OpensFile}
 use Rattle.answers.specs.Prove.{IsProveOf}
-use Rattle.text_check.specs.Published.{IsOnlyPublished}
-use Rattle.answers.specs.Published.{IsPublishedCheckOf}
 use Rattle.answers.specs.Start.{IsStarted}
 use Rattle.web.specs.declared.desk.Desk.{Desk}
 use Rattle.web.specs.declared.desk.Seat.{Seat}
@@ -84,16 +83,18 @@ IsRefused Is text status = IsShort text status ⊎ ((fault : ProgramFault) × (I
 abbrev pub seat : ℕ → Seen → Seat
 seat handle bench = record { handle = handle; bench = bench }
 
--- a bench that was started with the file follows the others, under the handle after the last one that was given
+-- A bench that was started with the file follows the others, under the handle after the last one that was given. The
+-- text says which colour each letter is.
 abbrev pub IsOpened : List ℕ → Options → Desk → Desk → ℕ → Type 0
 IsOpened file options old new handle =
     (handle ≡ old.given + 1) × ((new.given ≡ handle) × ((bench : Seen)
-    × (IsStarted file options bench × (new.seats.items ≡ old.seats.items ++ seat handle bench ∷ []))))
+    × (IsStarted file options bench × ((new.seats.items ≡ old.seats.items ++ seat handle bench ∷ [])
+    × (new.text.items ≡ palette_text bench.history.document.colours)))))
 
 -- What happens where a bench is to be opened on a file. If none is opened, the handle is 0, which is never given.
 abbrev pub Opens : List ℕ → Options → Desk → Desk → ℕ → ℕ → Type 0
 Opens file options old new status handle =
-    ((status ≡ 0) × ((new.text.items ≡ []) × IsOpened file options old new handle))
+    ((status ≡ 0) × IsOpened file options old new handle)
     ⊎ ((handle ≡ 0) × (IsKept old new × IsRefused (λ fault. OpensFile file options (Err fault)) new.text.items status))
 
 -- the bench at a place is gone, or no bench has the handle
@@ -107,18 +108,22 @@ Closes handle old new status = ClosesAt (place_of old.seats.items handle) old ne
 
 -- ---- certificates
 
--- The check of a certificate of a picture. Where it is accepted, no other picture has the clues and the givens.
-abbrev pub Checks : List ℕ → Option Rgb → List ℕ → List ℕ → ℕ → Type 0
-Checks file background cert text status =
-    ((status ≡ 0) × (IsCheckOf file background cert (Ok text) × IsOnlyPicture file background cert))
-    ⊎ IsRefused (λ fault. IsCheckOf file background cert (Err fault)) text status
+-- A certificate is accepted: the text is the line for it, and then a line for each of its givens. No other picture has
+-- the clues and the colours in the cells that are published or, without a text of these, in the certificate's givens.
+pub record IsAccepted (file : List ℕ) (background : Option Rgb) (givens : Option (List ℕ)) (cert text : List ℕ)
+    : Type 0 where
+  pub only : IsOnlyPicture file background givens cert
+  pub line : List ℕ
+  pub shows : IsCheckOf file background givens cert (Ok line)
+  pub named : List ℕ
+  pub are_named : AreGivensOf cert named
+  pub is : text ≡ line ++ named
 
--- The check of a certificate of a picture whose givens are published. Where it is accepted, no other picture has the
--- clues and the colours in the published cells.
-abbrev pub ChecksPublished : List ℕ → Option Rgb → List ℕ → List ℕ → List ℕ → ℕ → Type 0
-ChecksPublished file background givens cert text status =
-    ((status ≡ 0) × (IsPublishedCheckOf file background givens cert (Ok text) × IsOnlyPublished file background givens))
-    ⊎ IsRefused (λ fault. IsPublishedCheckOf file background givens cert (Err fault)) text status
+-- the check of a certificate of a picture, by the givens that are published, if their text is passed
+abbrev pub Checks : List ℕ → Option Rgb → Option (List ℕ) → List ℕ → List ℕ → ℕ → Type 0
+Checks file background givens cert text status =
+    ((status ≡ 0) × IsAccepted file background givens cert text)
+    ⊎ IsRefused (λ fault. IsCheckOf file background givens cert (Err fault)) text status
 
 -- What is made of a picture and of a text of givens, as the program makes it: a certificate with exactly these givens,
 -- or the word that there is another picture, or that neither was found.
@@ -129,12 +134,12 @@ Proves file givens options text status =
 
 -- ---- assessments
 
--- the block of a puzzle, fit or unfit
+-- the block of a puzzle, fit or unfit, and then which colour each letter is
 pub record IsTold (file : List ℕ) (givens cert : Option (List ℕ)) (options : AssessOptions) (text : List ℕ)
     : Type 0 where
   pub block : Block
   pub assesses : Assesses file givens cert options (Ok block)
-  pub is : text ≡ block.text.items
+  pub is : text ≡ block.text.items ++ block.palette.items
 
 -- the assessment of a puzzle, by the texts of its file, of its givens and of its certificate
 abbrev pub AssessesBy : List ℕ → Option (List ℕ) → Option (List ℕ) → AssessOptions → List ℕ → ℕ → Type 0

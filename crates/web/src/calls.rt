@@ -1,10 +1,13 @@
 //! The calls that a host makes.
+//!
+//! `nonobench_start`, `open`, `say`, `check`, `prove` and `assess` take memory, and may do so up to the last byte of their text; where
+//! some is refused, the status is 4. The other calls take none: by their clauses they have no such status.
 
-ghost use Rattle.std.specs.Prelude.{◌≡◌, ◌⊎◌, ◌++◌, None, [], drop, length, take, IfSome, IsSome};
+ghost use Rattle.std.specs.Prelude.{◌≡◌, ◌⊎◌, ◌++◌, None, Some, [], drop, length, option_map, take, IfSome, IsSome};
 ghost use denote.RawPtr.{null_ptr};
 ghost use Rattle.program_options.specs.declared.version.TheConstants.{VERSION};
 ghost use Rattle.web.specs.Asked.{assess_options_asked, background_asked, options_asked, prove_options_asked, text_if};
-ghost use Rattle.web.specs.Desk.{AssessesBy, Checks, ChecksPublished, Closes, IsKept, IsUnasked, Opens, Proves, Says};
+ghost use Rattle.web.specs.Desk.{AssessesBy, Checks, Closes, IsKept, IsUnasked, Opens, Proves, Says};
 ghost use Rattle.web.specs.Held.{IsEmpty};
 
 use crate::asked::{assess_options_of, background_of, options_of, prove_options_of, text_if};
@@ -12,8 +15,8 @@ use crate::cell::DeskCell;
 use crate::desk::Desk;
 use crate::held::Held;
 use crate::inside::{
-    Puzzle, assess_in, check_in, check_published_in, close_in, copy_front, forget_in, keep_text,
-    lend_text, open_in, prove_in, say_in,
+    Puzzle, assess_in, check_in, close_in, copy_front, forget_in, keep_text, lend_text, open_in,
+    prove_in, say_in,
 };
 use crate::status::{DONE, MEMORY, OPTIONS};
 use answers::VERSION;
@@ -58,7 +61,8 @@ pub extern "C" fn nonobench_end(cell: DeskCell)
     }
 }
 
-/// Opens a bench on a file, and sets `handle` to its handle, or to 0 where none is opened. The file's error is the text.
+/// Opens a bench on a file, and sets `handle` to its handle, or to 0 where none is opened. The text says which colour each letter
+/// is, or is the file's error.
 #[unsafe(no_mangle)]
 pub extern "C" fn nonobench_open(
     held: &mut Held,
@@ -115,7 +119,8 @@ pub extern "C" fn nonobench_close(held: &mut Held, handle: u32) -> u32
     replace_with(held, handle, close_in)
 }
 
-/// Checks a certificate of a picture, which may have any givens. What the program writes for it, or an error, is the text.
+/// Checks a certificate of a picture, which may have any givens. What the program writes for it, with a line for each of its givens
+/// below, or an error, is the text.
 #[unsafe(no_mangle)]
 pub extern "C" fn nonobench_check_any_given(
     held: &mut Held,
@@ -124,20 +129,16 @@ pub extern "C" fn nonobench_check_any_given(
     background: &[u8],
 ) -> u32
     ensures checks { IfSome (background_asked background.now) (λ colour.
-        Checks file.now colour cert.now held.new.desk.text.items result) }
+        Checks file.now colour None cert.now held.new.desk.text.items result) }
     ensures refused { background_asked background.now ≡ None
         → IsUnasked held.old.desk held.new.desk result }
     ensures kept { IsKept held.old.desk held.new.desk }
 {
-    let Some(background) = background_of(background) else {
-        replace_with(held, (), forget_in);
-        return OPTIONS;
-    };
-    replace_with(held, (file, cert, background), check_in)
+    check_on(held, file, cert, None, background)
 }
 
-/// Checks a certificate of a picture by the text of the file of the givens that are published, which may be empty. What the program
-/// writes for it, or an error, is the text.
+/// Checks a certificate of a picture by the text of the file of the givens that are published, which may be empty. The text is as
+/// for `nonobench_check_any_given`.
 #[unsafe(no_mangle)]
 pub extern "C" fn nonobench_check(
     held: &mut Held,
@@ -147,7 +148,25 @@ pub extern "C" fn nonobench_check(
     background: &[u8],
 ) -> u32
     ensures checks { IfSome (background_asked background.now) (λ colour.
-        ChecksPublished file.now colour givens.now cert.now held.new.desk.text.items result) }
+        Checks file.now colour (Some givens.now) cert.now held.new.desk.text.items result) }
+    ensures refused { background_asked background.now ≡ None
+        → IsUnasked held.old.desk held.new.desk result }
+    ensures kept { IsKept held.old.desk held.new.desk }
+{
+    check_on(held, file, cert, Some(givens), background)
+}
+
+// The two calls above, which are two since each is a function of the C library.
+fn check_on(
+    held: &mut Held,
+    file: &[u8],
+    cert: &[u8],
+    givens: Option<&[u8]>,
+    background: &[u8],
+) -> u32
+    ensures checks { IfSome (background_asked background.now) (λ colour.
+        Checks file.now colour (option_map (λ text. text.now) givens.entry) cert.now
+        held.new.desk.text.items result) }
     ensures refused { background_asked background.now ≡ None
         → IsUnasked held.old.desk held.new.desk result }
     ensures kept { IsKept held.old.desk held.new.desk }
@@ -156,7 +175,7 @@ pub extern "C" fn nonobench_check(
         replace_with(held, (), forget_in);
         return OPTIONS;
     };
-    replace_with(held, (file, cert, givens, background), check_published_in)
+    replace_with(held, (file, cert, givens, background), check_in)
 }
 
 /// Makes a certificate of a picture with the givens of a text, which may be empty: one with lemmas in the form `nonolemma 1` or
@@ -184,7 +203,8 @@ pub extern "C" fn nonobench_prove(
 }
 
 /// Assesses a puzzle: a P3 text, or a .non text with a goal. The texts of its givens and of its certificate count where they are
-/// passed. `allowance` is a word: 0 to 99999 splits, `off` for no bound, or empty for 10,000. The block, which ends with `fit` or `unfit`, or an error, is the text.
+/// passed. `allowance` is a word: 0 to 99999 splits, `off` for no bound, or empty for 10,000. The block, which ends with `fit` or
+/// `unfit`, with the palette below it, or an error, is the text.
 #[unsafe(no_mangle)]
 pub extern "C" fn nonobench_assess(
     held: &mut Held,

@@ -1,22 +1,24 @@
 //! The benches that a host has opened, and the text of its last call.
 
-ghost use Rattle.std.specs.Prelude.{◌≡◌, ◌⊎◌, ◌<◌, true, [], Err, length, IfErr, IfOk, IfSome, OnErr, option_map};
+ghost use Rattle.std.specs.Prelude.{◌≡◌, ◌⊎◌, ◌<◌, ◌++◌, true, [], Err, length, IfErr, IfOk, IfSome, OnErr, option_map};
 ghost use Rattle.program_options.specs.declared.fault.ProgramFault.TheVariants.{Memory, Write as Unwritten};
 ghost use Rattle.answers.specs.Open.{OpensFile};
 ghost use Rattle.program_options.specs.Options.{IsLawful};
-ghost use Rattle.web.specs.Desk.{AssessesBy, Checks, ChecksPublished, Closes, IsKept, IsOpened, IsShort, Opens, Proves, RunsOver, Says, Tells, place_of};
+ghost use Rattle.report_text.specs.Report.{palette_text};
+ghost use Rattle.web.specs.Desk.{AssessesBy, Checks, Closes, IsKept, IsOpened, IsShort, Opens, Proves, RunsOver, Says, Tells, place_of};
 
 use crate::status::{CLOSED, DONE, MEMORY};
 use answers::{
-    AssessOptions, Options, ProgramFault, ProveOptions, run_assess, run_check, run_check_published,
-    run_prove, start_bench,
+    AssessOptions, Options, ProgramFault, ProveOptions, run_assess, run_prove, start_bench,
 };
 use line_settle::MaskEngine;
 use live_audit::Bench;
 use picture::Rgb;
 use propagate::InOrder;
+use report_text::palette_text;
 use session::run_session;
 use std::alloc::{AllocError, Global};
+use text_check::check_texts;
 
 /// A bench under its handle.
 #[derive(Drop)]
@@ -50,16 +52,13 @@ impl Desk {
     }
 
     /// Opens a bench on a file, and returns the status and its handle, which was never given before, or 0 where none is
-    /// opened. The file's error is the text.
+    /// opened. The text says which colour each letter is, or is the file's error.
     pub fn open(&mut self, file: &[u8], options: &Options) -> (u32, u32)
         requires { IsLawful options.now }
         ensures { Opens file.now options.now self.old self.new result.0 result.1 }
     {
         match self.begin(file, options) {
-            Ok(handle) => {
-                self.text.clear();
-                (DONE, handle)
-            }
+            Ok(handle) => (DONE, handle),
             Err(fault) => (self.refuse(&fault), 0),
         }
     }
@@ -89,36 +88,23 @@ impl Desk {
         }
     }
 
-    /// Checks a certificate of a picture, which may have any givens. What the program writes for it, or why it refuses it, is the
+    /// Checks a certificate of a picture, by the text of the file of the givens that are published; without it, the certificate may
+    /// have any. What the program writes for it, with a line for each of the certificate's givens below, or why it refuses it, is the
     /// text.
-    pub fn check(&mut self, file: &[u8], cert: &[u8], background: Option<Rgb>) -> u32
-        ensures checks { Checks file.now background cert.now self.new.text.items result }
-        ensures kept { IsKept self.old self.new }
-    {
-        self.text.clear();
-        match run_check(self.alloc, file, cert, background, &mut self.text) {
-            Ok(()) => DONE,
-            Err(fault) => self.refuse(&fault),
-        }
-    }
-
-    /// Checks a certificate of a picture whose givens are published, by the text of the file of givens. What the program writes
-    /// for it, or why it refuses it, is the text.
-    pub fn check_published(
+    pub fn check(
         &mut self,
         file: &[u8],
         cert: &[u8],
-        givens: &[u8],
+        givens: Option<&[u8]>,
         background: Option<Rgb>,
     ) -> u32
-        ensures checks { ChecksPublished file.now background givens.now cert.now
-            self.new.text.items result }
+        ensures checks { Checks file.now background (option_map (λ text. text.now) givens.entry)
+            cert.now self.new.text.items result }
         ensures kept { IsKept self.old self.new }
     {
-        self.text.clear();
-        match run_check_published(self.alloc, file, cert, givens, background, &mut self.text) {
-            Ok(()) => DONE,
-            Err(fault) => self.refuse(&fault),
+        match check_texts(self.alloc, file, cert, givens, background) {
+            Ok(accepted) => self.show(accepted.line, accepted.givens),
+            Err(fault) => self.refuse(&ProgramFault::from(fault)),
         }
     }
 
@@ -136,8 +122,8 @@ impl Desk {
         }
     }
 
-    /// Assesses a puzzle by the text of its file, and by those of the givens and the certificate that are passed. The block, or why
-    /// it is refused, is the text.
+    /// Assesses a puzzle by the text of its file, and by those of the givens and the certificate that are passed. The block with the
+    /// palette below, or why it is refused, is the text.
     pub fn assess(
         &mut self,
         file: &[u8],
@@ -150,15 +136,25 @@ impl Desk {
         ensures kept { IsKept self.old self.new }
     {
         match run_assess(self.alloc, file, givens, cert, options) {
-            Ok(block) => {
-                self.text = block.text;
-                DONE
-            }
+            Ok(block) => self.show(block.text, block.palette),
             Err(fault) => self.refuse(&fault),
         }
     }
 
-    // Starts a bench on a file, under the handle after the last one that was given.
+    // Makes a text with another below it the text. Where memory is refused, there is no text.
+    fn show(&mut self, text: Vec<u8>, below: Vec<u8>) -> u32
+        ensures shows { IsShort self.new.text.items result ⊎ ((result ≡ 0)
+            × (self.new.text.items ≡ text.items ++ below.items)) }
+        ensures kept { IsKept self.old self.new }
+    {
+        self.text = text;
+        match self.text.extend_from_slice(&below) {
+            Ok(()) => DONE,
+            Err(_) => self.refuse(&ProgramFault::Memory),
+        }
+    }
+
+    // Starts a bench on a file, under the handle after the last one that was given, and makes its palette the text.
     fn begin(&mut self, file: &[u8], options: &Options) -> Result<u32, ProgramFault>
         requires { IsLawful options.now }
         ensures opened { IfOk result (λ handle.
@@ -169,11 +165,13 @@ impl Desk {
     {
         let handle = self.given.checked_add(1).ok_or(ProgramFault::Memory)?;
         let bench = start_bench(self.alloc, file, options)?;
+        let text = palette_in(self.alloc, &bench)?;
         match self.seats.push(Seat { handle, bench }) {
             Ok(()) => {}
             Err(_) => return Err(ProgramFault::Memory),
         }
         self.given = handle;
+        self.text = text;
         Ok(handle)
     }
 
@@ -204,6 +202,14 @@ impl Desk {
     {
         self.seats.iter().position(|seat| seat.handle == handle)
     }
+}
+
+// Which colour each letter is in the present picture of a bench.
+fn palette_in(alloc: Global, bench: &Bench<MaskEngine, InOrder>) -> Result<Vec<u8>, AllocError>
+    ensures { IfOk result (λ text. text.items ≡ palette_text bench.now.history.document.colours) }
+{
+    let document = bench.document();
+    palette_text(alloc, &document.palette)
 }
 
 // Runs a session on one bench. It ends early where memory for its text is refused, or where it needs more reads than a session

@@ -2,7 +2,7 @@
 
 ghost use Rattle.std.specs.Prelude.{◌≡◌, [], ◌++◌, drop, length, option_map, take};
 ghost use Rattle.program_options.specs.Options.{IsLawful};
-ghost use Rattle.web.specs.Desk.{AssessesBy, Checks, ChecksPublished, Closes, IsKept, Opens, Proves, Says};
+ghost use Rattle.web.specs.Desk.{AssessesBy, Checks, Closes, IsKept, Opens, Proves, Says};
 
 use crate::held::Held;
 use answers::{AssessOptions, Options, ProveOptions};
@@ -38,25 +38,15 @@ pub fn close_in(held: Held, handle: u32) -> (Held, u32)
     (Held::new(desk), status)
 }
 
-/// Checks a certificate, which may have any givens. `asked` is the file, the certificate and the background.
-pub fn check_in(held: Held, asked: (&[u8], &[u8], Option<Rgb>)) -> (Held, u32)
-    ensures checks { Checks asked.entry.0.now asked.entry.2 asked.entry.1.now
+/// Checks a certificate. `asked` is the file, the certificate, the givens that are published, if they are passed, and the background.
+pub fn check_in(held: Held, asked: (&[u8], &[u8], Option<&[u8]>, Option<Rgb>)) -> (Held, u32)
+    ensures checks { Checks asked.entry.0.now asked.entry.3
+        (option_map (λ text. text.now) asked.entry.2) asked.entry.1.now
         result.0.desk.text.items result.1 }
     ensures kept { IsKept held.desk result.0.desk }
 {
     let mut desk = held.into_box();
-    let status = desk.check(asked.0, asked.1, asked.2);
-    (Held::new(desk), status)
-}
-
-/// Checks a certificate where givens are published. `asked` is the file, the certificate, the givens and the background.
-pub fn check_published_in(held: Held, asked: (&[u8], &[u8], &[u8], Option<Rgb>)) -> (Held, u32)
-    ensures checks { ChecksPublished asked.entry.0.now asked.entry.3 asked.entry.2.now
-        asked.entry.1.now result.0.desk.text.items result.1 }
-    ensures kept { IsKept held.desk result.0.desk }
-{
-    let mut desk = held.into_box();
-    let status = desk.check_published(asked.0, asked.1, asked.2, asked.3);
+    let status = desk.check(asked.0, asked.1, asked.2, asked.3);
     (Held::new(desk), status)
 }
 

@@ -1,6 +1,6 @@
 use Rattle.std.proofs.Common.{◌∙◌, ◌++◌, ℕ, List, Err, ap}
 use Rattle.std.proofs.lemmas.Result.{err_from_is_err_and}
-use Rattle.assess_text.specs.AssessmentText.{assessment_text}
+use Rattle.report_text.specs.AssessmentText.{assessment_text}
 use Rattle.answers.proofs.AssessLemmas.{not_found}
 use Rattle.answers.proofs.assessing.run_assess.Goals as goal
 
@@ -16,5 +16,6 @@ returns c = record {
   found = c.in_ok-found.found;
   finds = c.in_ok-found.ensures;
   text = c.in_ok-push_assessment.ensures ∙ ap (λ (x : List ℕ). x ++ assessment_text c.in_ok-found.found) c.new-text.ensures.items;
+  palette = c.in_ok-palette.ensures;
   fit = c.is_fit.ensures;
 }

@@ -1,8 +1,8 @@
-use Rattle.std.proofs.Common.{◌≡◌, ◌+◌, ◌*◌, ◌≤◌, arith, subst, sym}
+use Rattle.std.proofs.Common.{◌≡◌, ◌+◌, ◌*◌, ◌≤◌, arith, subst, sym, ◌∙◌}
 use Rattle.picture.specs.CellSet.{cell_count}
 use Rattle.second_search.specs.Evaluations.{most_to_close}
 use Rattle.assess.specs.Calls.{most_to_grade}
-use Rattle.assess.proofs.JudgeLemmas.{few_in_all, none_yet, only_where}
+use Rattle.assess.proofs.JudgeLemmas.{few_in_all, none_yet, only_beyond, only_where}
 use Rattle.assess.proofs.assessing.assess.Goals as goal
 
 pub judge_map-requires : goal.judge_map-requires
@@ -62,3 +62,12 @@ returns-in_err-verdict-clause-few g c =
 
 pub returns-in_err-looked-clause-few : goal.returns-in_err-looked-clause-few
 returns-in_err-looked-clause-few g c = none_yet c.args.document.now.picture c.args.document.now.givens c.args.allowance _ _ c.in_err-looked.ensures.idle
+
+pub returns-clause-unknown : goal.returns-clause-unknown
+returns-clause-unknown g c = λ unique none.
+    let d = c.args.document.now in
+    let made = c.described.ensures in
+    let verdict = sym made.verdict ∙ unique in
+    only_beyond d.picture d.givens _ (g.E.LineEngine.calls c.judge_map.new.engine) (g.E.LineEngine.calls c.grade_if.new.engine) _
+    (only_where d.picture d.givens c.args.allowance c.in_ok-verdict.verdict c.in_ok-verdict.ensures.verdict verdict)
+    (c.in_ok-graded.ensures.unknown verdict (sym made.grade ∙ none)) (omega arith) (omega arith)

@@ -1,9 +1,9 @@
-use Rattle.std.proofs.Common.{◌+◌, ◌*◌, ◌≤◌, arith}
+use Rattle.std.proofs.Common.{◌+◌, ◌*◌, ◌≤◌, ◌∙◌, arith, sym}
 use Rattle.std.proofs.lemmas.Result.{err_from_is_err_and}
 use Rattle.picture.specs.CellSet.{cell_count}
 use Rattle.second_search.specs.Evaluations.{most_to_close}
 use Rattle.assess.specs.AssessedBy.{IsRefused}
-use Rattle.assess.proofs.JudgeLemmas.{few_by}
+use Rattle.assess.proofs.JudgeLemmas.{few_by, only_beyond}
 use Rattle.assess.proofs.assessing.assess_by.Goals as goal
 
 pub check_published-requires : goal.check_published-requires
@@ -60,3 +60,9 @@ returns-in_err-graded-clause-few g c =
     let calls = g.E.LineEngine.calls c.grade.new.engine in
     let none : calls ≤ calls + cell_count d.givens * most_to_close d.picture = omega arith in
     few_by d.picture d.givens c.args.cert.now c.in_ok-looked.looked.figures _ _ _ calls _ found.looked.figures c.check_published.ensures.work found.few c.grade.ensures.few none
+
+pub returns-clause-unknown : goal.returns-clause-unknown
+returns-clause-unknown g c = λ none.
+    let d = c.args.document.now in
+    only_beyond d.picture d.givens _ (g.E.LineEngine.calls c.look.new.engine) (g.E.LineEngine.calls c.grade.new.engine) _ c.in_ok-check_published.ensures.unique
+    (c.in_ok-graded.ensures.unknown (sym c.described.ensures.grade ∙ none)) (omega arith) (omega arith)

@@ -20,3 +20,6 @@ returns-clause-few g c =
     let d = c.args.document.now in
     let made : IsShortCert d.picture d.givens c.in-Some.cert = rw c.in-Some.is at c.in_ok-cert.ensures.makes in
     trees_and_lines d.picture (length c.in-Some.cert.lines) _ _ _ c.short_cert.ensures.few c.grade_by.ensures.few made.short
+
+pub returns-in_default-clause-unknown : goal.returns-in_default-clause-unknown
+returns-in_default-clause-unknown g c = λ none. rw c.in_default.is at c.in_ok-cert.ensures.none

@@ -32,7 +32,6 @@ loop-i-preserved g c =
       same_longest = c.in-Ok.ensures.same_longest ∙ c.loop-i.invariant.same_longest;
       calls = (let once = c.in-Ok.ensures.calls in let so_far = c.loop-i.invariant.calls in omega arith);
       work = (let once = c.in-Ok.ensures.work in let so_far = c.loop-i.invariant.work in omega arith);
-      looks = (let once = c.in-Ok.ensures.looks in let so_far = c.loop-i.invariant.looks in omega arith);
       so_far = taken_first _ _ c.loop-i.machine.walk c.loop-i.going (place_of cert.runs (2 + length cert.givens)) c.loop-i.i cert.lines inside c.loop-i.invariant.so_far
           _ _ c.if-not-going.false line c.step.new.self c.in-Ok.going c.in-Ok.ensures.takes;
     }

@@ -1,6 +1,5 @@
-use Rattle.std.proofs.Common.{◌≡◌, ◌+◌, ◌*◌, ◌≤◌, true, Some, length, drop}
+use Rattle.std.proofs.Common.{◌≡◌, ◌+◌, ◌≤◌, true, Some, length, drop}
 use Rattle.cert_text.specs.Cert.{place_of}
-use Rattle.cert_text.specs.declared.cert_line.TheConstants.{MAX_LEMMA_LITERALS}
 use Rattle.cert_check.specs.Machined.{AffordsAll, IsRight, reached}
 use Rattle.cert_check.specs.Walk.{CanCheck}
 use Rattle.cert_check.proofs.WalkLemmas.{FirstSoFar}
@@ -14,6 +13,5 @@ invariant-loop-i g l = record {
   same_longest : g.E.LineEngine.longest l.engine ≡ g.E.LineEngine.longest l.initial.engine;
   calls : g.E.LineEngine.calls l.initial.engine ≤ g.E.LineEngine.calls l.engine;
   work : g.E.LineEngine.calls l.engine ≤ g.E.LineEngine.calls l.initial.engine + l.i;
-  looks : g.L.LiteralEngine.looks l.reader ≤ g.L.LiteralEngine.looks l.initial.reader + MAX_LEMMA_LITERALS * l.i;
   so_far : FirstSoFar l.claim.picture.now (Some l.initial.machine.walk) (reached l.going l.machine.walk) (place_of l.cert.runs (2 + length l.cert.givens)) l.i l.cert.lines (drop l.i l.cert.lines);
 }

@@ -1,46 +1,35 @@
-use Rattle.std.proofs.Common.{subst, sym}
-use Rattle.clues.specs.ClueBook.{Clues}
-use Rattle.second_search.specs.Parts.{IsScene}
-use Rattle.cert_check.specs.Walk.{CanCheck}
-use Rattle.certificate.proofs.MadeLemmas.{none_made, some_made}
+use Rattle.std.proofs.Common.{arith}
 use Rattle.certificate.proofs.making.make_cert_within.Goals as goal
 
 pub has_near_other-requires-clause-scene : goal.has_near_other-requires-clause-scene
-has_near_other-requires-clause-scene g c =
-    subst (λ (k : Clues). IsScene k c.args.givens.now c.in_ok-facts.facts c.args.picture.now) (sym c.in_ok-book.ensures) c.in_ok-facts.ensures.scene
+has_near_other-requires-clause-scene g c = c.in_ok-root.ensures.is_scene
 
 pub has_near_other-requires-clause-can : goal.has_near_other-requires-clause-can
-has_near_other-requires-clause-can g c = record {
-  is_picture = c.in_ok-facts.ensures.scene.is_picture;
-  clues_are = c.in_ok-book.ensures;
-  tall = c.requires.tall;
-  wide = c.requires.wide;
-}
+has_near_other-requires-clause-can g c =
+    let root = c.in_ok-root.ensures in
+    record { is_picture = root.is_scene.is_picture; clues_are = root.clues; wide = c.requires.wide; tall = c.requires.tall }
 
 pub returns-then-branch-clause-makes : goal.returns-then-branch-clause-makes
 returns-then-branch-clause-makes g c = c.in_ok-has_near_other.ensures.other c.if-branch.true
 
-pub write_tree-requires-clause-can : goal.write_tree-requires-clause-can
-write_tree-requires-clause-can g c =
-    let can : CanCheck c.args.picture.now c.in_ok-book.book (g.E.LineEngine.longest c.args.engine.now) = record {
-      is_picture = c.in_ok-facts.ensures.scene.is_picture;
-      clues_are = c.in_ok-book.ensures;
-      tall = c.requires.tall;
-      wide = c.requires.wide;
-    } in
-    subst (CanCheck c.args.picture.now c.in_ok-book.book) (sym c.has_near_other.ensures.same_longest) can
+pub decide_by_trees-requires : goal.decide_by_trees-requires
+decide_by_trees-requires g c =
+    let root = c.in_ok-root.ensures in
+    record {
+      can = record {
+        is_picture = root.is_scene.is_picture;
+        clues_are = root.clues;
+        wide = rw c.has_near_other.ensures.same_longest c.requires.wide;
+        tall = rw c.has_near_other.ensures.same_longest c.requires.tall;
+      };
+      is_scene = root.is_scene;
+      inside = c.requires.inside;
+      names = rw c.deref.ensures.value root.names;
+      base = rw c.deref.ensures.value root.base;
+    }
 
-pub write_tree-requires-clause-same_shape : goal.write_tree-requires-clause-same_shape
-write_tree-requires-clause-same_shape g c = c.in_ok-facts.ensures.scene.sound.same_shape
+pub returns-in-Proof-clause-makes : goal.returns-in-Proof-clause-makes
+returns-in-Proof-clause-makes g c = rw c.in-Proof.is at c.in_ok-cert.ensures.decides
 
-pub returns-in_default-clause-makes : goal.returns-in_default-clause-makes
-returns-in_default-clause-makes g c =
-    let scene = c.in_ok-facts.ensures.scene in
-    none_made c.args.picture.now c.in_ok-facts.facts c.args.givens.now c.in_ok-cells.cells.items scene.is_picture c.requires.inside c.in_ok-cells.ensures.named scene.sound.same_shape
-    (rw c.deref.ensures.value at c.in_ok-facts.ensures.root) (rw c.in_default.is at c.in_ok-lines.ensures.writes)
-
-pub returns-clause-makes : goal.returns-clause-makes
-returns-clause-makes g c =
-    some_made c.args.picture.now c.in_ok-facts.facts c.args.givens.now c.in_ok-cells.cells.items c.in-Some.lines.items c.of_tree.result c.in_ok-facts.ensures.scene.is_picture
-    c.in_ok-cells.ensures.named (rw c.deref.ensures.value at c.in_ok-facts.ensures.root) (rw c.in-Some.is at c.in_ok-lines.ensures.writes)
-    c.of_tree.ensures.cert c.of_tree.ensures.givens c.of_tree.ensures.lines c.of_tree.ensures.form
+pub returns-in-Other-clause-makes : goal.returns-in-Other-clause-makes
+returns-in-Other-clause-makes g c = (_, rw c.in-Other.is at c.in_ok-cert.ensures.decides)

@@ -11,7 +11,7 @@ use Rattle.edits.proofs.idle.changes_nothing.Goals as goal
 pub returns-in-Paint : goal.returns-in-Paint
 returns-in-Paint c =
     let d = design_of c.args.document.now in
-    paint_idle d c.args.edit.now c.changes_cells.result c.know.ensures.is_picture c.changes_cells.ensures
+    paint_idle d c.args.edit.now c.changes_cells.result c.know.ensures.design.is_picture c.changes_cells.ensures
     ∙ ap (λ x. same_design x d) (sym ((paints c.args.edit.now c.in-Paint.is).gives d))
 
 pub returns-in-SwapLines : goal.returns-in-SwapLines
@@ -26,9 +26,9 @@ returns-in-SetColour c =
 pub returns-in-Pin : goal.returns-in-Pin
 returns-in-Pin c =
     let inside = not_in c.args.document.now.picture c.in-Pin.row c.in-Pin.col (rw c.in-Pin.is at c.requires.inside) in
-    rw c.in-Pin.is (pin_idle (design_of c.args.document.now) c.in-Pin.row c.in-Pin.col c.is_given.result c.know.ensures inside.0 inside.1 c.is_given.ensures)
+    rw c.in-Pin.is (pin_idle (design_of c.args.document.now) c.in-Pin.row c.in-Pin.col c.is_given.result c.know.ensures.design inside.0 inside.1 c.is_given.ensures)
 
 pub returns-in-Unpin : goal.returns-in-Unpin
 returns-in-Unpin c =
     let inside = not_in c.args.document.now.picture c.in-Unpin.row c.in-Unpin.col (rw c.in-Unpin.is at c.requires.inside) in
-    rw c.in-Unpin.is (unpin_idle (design_of c.args.document.now) c.in-Unpin.row c.in-Unpin.col c.is_given-in-Unpin.result c.know.ensures inside.0 inside.1 c.is_given-in-Unpin.ensures)
+    rw c.in-Unpin.is (unpin_idle (design_of c.args.document.now) c.in-Unpin.row c.in-Unpin.col c.is_given-in-Unpin.result c.know.ensures.design inside.0 inside.1 c.is_given-in-Unpin.ensures)

@@ -14,7 +14,7 @@ invariant_of-result c =
     let fits : All (IsCellIn blank.picture) c.args.cells.now = rw rows c.requires.cells in
     record {
       coloured = rw (c.put_cells.ensures, rows, palette) c.requires.coloured;
-      inside = changed_inside blank.picture c.put_cells.new.picture c.args.cells.now c.put_givens.new.givens c.height.ensures.picture fits c.put_cells.ensures c.put_givens.ensures.inside;
+      inside = changed_inside blank.picture c.put_cells.new.picture c.args.cells.now c.put_givens.new.givens c.know.ensures.design.is_picture fits c.put_cells.ensures c.put_givens.ensures.inside;
     }
 
 pub returns : goal.returns
@@ -24,4 +24,4 @@ returns c =
     let fits : All (IsCellIn blank.picture) c.args.cells.now = rw rows c.requires.cells in
     restored_document blank.picture c.put_cells.new.picture c.args.cells.now c.args.givens.now blank.givens c.put_givens.new.givens blank.palette
     (design c.args.document.now.palette (line_inserted c.args.document.now.picture c.args.line) (line_inserted (design_of c.args.document.now).marks c.args.line))
-    c.height.ensures.picture fits c.in_ok-blank.ensures c.put_cells.ensures c.put_givens.ensures.marks
+    c.know.ensures.design.is_picture fits c.in_ok-blank.ensures c.put_cells.ensures c.put_givens.ensures.marks

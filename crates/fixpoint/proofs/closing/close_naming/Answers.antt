@@ -1,8 +1,9 @@
 use Rattle.std.proofs.Common.{refl, ◌∙◌, arith}
 use Rattle.line_facts.proofs.ForceLaws.{gains_grows}
-use Rattle.worklist.proofs.NameLaws.{filled}
+use Rattle.fixpoint.proofs.NameLaws.{filled}
 use Rattle.fixpoint.proofs.ClosingLaws.{closing_dies, closing_ends, closing_goes_on, closing_starts, has_clue, keeping_goes_on, keeping_starts}
-use Rattle.fixpoint.proofs.WorkLaws.{crossing_put, one_counted, working_dies, working_goes_on, working_starts, less_to_do}
+use Rattle.fixpoint.proofs.LeftLaws.{less_to_do}
+use Rattle.fixpoint.proofs.WorkLaws.{crossing_put, one_counted, working_dies, working_goes_on, working_starts}
 use Rattle.fixpoint.proofs.closing.close_naming.Goals as goal
 
 pub returns-in-Dead-clause-closes : goal.returns-in-Dead-clause-closes

@@ -1,7 +1,8 @@
 use Rattle.std.proofs.Common.{◌≡◌}
 use Rattle.fixpoint.specs.ClosedFacts.{evaluated}
 use Rattle.fixpoint.proofs.ClosingLaws.{Closing, Keeping}
-use Rattle.fixpoint.proofs.WorkLaws.{Working, left_to_do}
+use Rattle.fixpoint.specs.LeftToDo.{left_to_do}
+use Rattle.fixpoint.proofs.WorkLaws.{Working}
 use Rattle.fixpoint.proofs.closing.close_naming.Given as goal
 
 abbrev pub invariant-loop-line : goal.invariant-loop-line

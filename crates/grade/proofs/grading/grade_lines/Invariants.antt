@@ -1,9 +1,10 @@
 use Rattle.std.proofs.Common.{◌≡◌, ◌+◌, ◌^◌, ◌≤◌, ◌<◌, List, length}
 use Rattle.line_facts.specs.Counts.{counted}
 use Rattle.fixpoint.specs.ClosedFacts.{AreClosable}
+use Rattle.fixpoint.specs.LeftToDo.{left_to_do}
 use Rattle.grade.specs.Looks.{Look}
 use Rattle.grade.specs.Tallies.{Tallies}
-use Rattle.grade.specs.Walking.{CanWalk, Walks, remaining}
+use Rattle.grade.specs.Walking.{CanWalk, Walks}
 use Rattle.grade.proofs.grading.grade_lines.Given as goal
 
 abbrev pub invariant-loop-seen : goal.invariant-loop-seen
@@ -13,11 +14,11 @@ invariant-loop-seen g l = record {
   looks : List Look;
   walks : Walks l.book l.fn.facts looks l.facts l.walk;
   tallies : Tallies looks l.tally;
-  few : l.tally.evaluations + remaining l.facts l.walk.due < 2 ^ 30;
+  few : l.tally.evaluations + left_to_do l.facts l.walk.due < 2 ^ 30;
   since : l.tally.since_fall ≤ l.tally.evaluations;
   called : g.E.LineEngine.calls l.engine ≡ counted (g.E.LineEngine.calls l.fn.engine) (length looks);
   same_longest : g.E.LineEngine.longest l.engine ≡ g.E.LineEngine.longest l.fn.engine;
 }
 
 abbrev pub decreases-loop-seen : goal.decreases-loop-seen
-decreases-loop-seen g l = remaining l.facts l.walk.due
+decreases-loop-seen g l = left_to_do l.facts l.walk.due

@@ -1,9 +1,10 @@
 use Rattle.std.proofs.Common.{◌≡◌, List, length}
 use Rattle.line_facts.specs.Counts.{counted}
 use Rattle.fixpoint.specs.ClosedFacts.{AreClosable}
+use Rattle.fixpoint.specs.LeftToDo.{left_to_do}
 use Rattle.grade.specs.Looks.{Look}
 use Rattle.grade.specs.Paths.{IsPath}
-use Rattle.grade.specs.Walking.{CanWalk, Walks, remaining}
+use Rattle.grade.specs.Walking.{CanWalk, Walks}
 use Rattle.grade.proofs.pathing.make_path.Given as goal
 
 abbrev pub invariant-loop-seen : goal.invariant-loop-seen
@@ -18,4 +19,4 @@ invariant-loop-seen g l = record {
 }
 
 abbrev pub decreases-loop-seen : goal.decreases-loop-seen
-decreases-loop-seen g l = remaining l.facts l.walk.due
+decreases-loop-seen g l = left_to_do l.facts l.walk.due

@@ -15,10 +15,10 @@ of_document document Is (Err refused) parts is = tt
 pub returns-clause-assessment : goal.returns-clause-assessment
 returns-clause-assessment g c =
     let d = c.args.document.now in
-    let parts : IsDocumentOf (design_of d) d = record { parts = refl; givens = record { set = c.has.ensures.set; are = marks_are_givens d.picture d.givens d.inside } } in
+    let parts : IsDocumentOf (design_of d) d = record { parts = refl; givens = record { set = c.know.ensures.givens; are = marks_are_givens d.picture d.givens d.inside } } in
     of_document d (λ document. IsAssessment document c.args.allowance) c.assess.result parts c.assess.ensures.assessment
 
 pub returns-clause-few : goal.returns-clause-few
 returns-clause-few g c =
     let d = c.args.document.now in
-    (d, (record { parts = refl; givens = record { set = c.has.ensures.set; are = marks_are_givens d.picture d.givens d.inside } }, c.assess.ensures.few))
+    (d, (record { parts = refl; givens = record { set = c.know.ensures.givens; are = marks_are_givens d.picture d.givens d.inside } }, c.assess.ensures.few))

@@ -10,6 +10,6 @@ returns-clause-certifies g c =
     let d = c.args.document.now in
     let o = c.in_ok-document in
     let others =
-    same_others clues_are_of_lines books_are_their_clues d o.document c.len.ensures.palette d.coloured c.height.ensures.picture c.height-2.ensures.picture o.ensures.content o.ensures.shown in
+    same_others clues_are_of_lines books_are_their_clues d o.document c.know.ensures.design.is_palette d.coloured c.know.ensures.design.is_picture c.know-2.ensures.design.is_picture o.ensures.content o.ensures.shown in
     joined (design_of d) c.make_cert_within.result others
     (certified marks_are_givens d o.document c.make_cert_within.result d.inside o.ensures.content c.make_cert_within.ensures.makes)

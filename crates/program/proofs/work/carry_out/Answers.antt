@@ -47,15 +47,15 @@ returns-in_ok-givens-in-Check g c =
     let file = c.in_ok-file-in-Check in
     let cert = c.in_ok-cert-in-Check in
     let givens = c.in_ok-givens-in-Check in
-    let e = c.run_check_published.ensures in
+    let e = c.run_check-in-Check.ensures in
     checked_with _ _ _ _ _ _ _ _ _ _ _ _ _ task.file task.cert c.in-Some.givens file.file.items cert.cert.items (record {
       both = record { content = file.ensures.reads.0; first = file.ensures.opens; faultless = file.ensures.cause; keeps = file.ensures.keeps; next = cert.ensures.opens };
       cert_content = cert.ensures.reads.0;
       faultless = cert.ensures.cause;
       keeps = cert.ensures.keeps;
       next = givens.ensures.opens;
-    }) c.args.task.now task.givens task.background task.is c.in-Some.is _ givens.givens.items c.deref-in-Check.result.now c.deref-in-Check-2.result.now c.deref-in-Check-3.result.now
-    c.run_check_published.result givens.ensures.reads.0 givens.ensures.cause c.deref-in-Check.ensures.value c.deref-in-Check-2.ensures.value c.deref-in-Check-3.ensures.value e.writes e.only e.unique
+    }) c.args.task.now task.givens task.background task.is c.in-Some.is _ givens.givens.items c.deref-in-Check.result.now c.deref-in-Check-2.result.now c.as_slice.result.now
+    c.run_check-in-Check.result givens.ensures.reads.0 givens.ensures.cause c.deref-in-Check.ensures.value c.deref-in-Check-2.ensures.value c.as_slice.ensures.value e.writes e.only e.only_lemmas e.unique
 
 pub returns-in-Assess : goal.returns-in-Assess
 returns-in-Assess g c =

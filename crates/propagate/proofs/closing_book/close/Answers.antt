@@ -3,7 +3,7 @@ use Rattle.std.proofs.lemmas.Result.{err_from_is_err_and}
 use Rattle.picture.specs.LineSet.{Lines}
 use Rattle.line_facts.proofs.FitLaws.{counting_adds}
 use Rattle.line_facts.proofs.ForceLaws.{gains_grows}
-use Rattle.worklist.proofs.NameLaws.{filled}
+use Rattle.fixpoint.proofs.NameLaws.{filled}
 use Rattle.fixpoint.proofs.ClosingLaws.{Closing, closing_starts}
 use Rattle.propagate.proofs.TurnLemmas.{dead_made, made_over}
 use Rattle.propagate.proofs.GrowLemmas.{ClosingBook, all_trimmed, book_closes, book_comes_nearer, book_dies, book_fails, book_goes_on, book_starts}

@@ -1,6 +1,6 @@
 use Rattle.std.proofs.Common.{◌≡◌}
 use Rattle.propagate.proofs.GrowLemmas.{ClosingBook}
-use Rattle.fixpoint.proofs.WorkLaws.{left_to_do}
+use Rattle.fixpoint.specs.LeftToDo.{left_to_do}
 use Rattle.propagate.proofs.closing_book.close.Given as goal
 
 abbrev pub invariant-loop-line : goal.invariant-loop-line

@@ -16,7 +16,7 @@ returns-clause-takes g c =
     let behind = c.force.ensures.behind in
     let facts = ap {B = List (List ℕ)} (λ (w : Walk). w.at_hand) now in
     let forced : IsForced c.args.claim.now.picture.now walk.at_hand (line_id c.args.at) new = rw (facts, c.in-Some.ensures.1) at c.force.ensures.forced in (
-      (λ going. still_right c.args.claim.now.picture.now c.args.self.now _ new c.force.new.board.behind _ _ _ _ _ _ right now (λ e. sym behind ∙ e) c.force.ensures.tallied),
+      (λ going. still_right c.args.claim.now.picture.now c.args.self.now _ new c.force.new.board.behind _ _ _ _ _ _ _ _ right now (ap (λ (m : Machined). m.height) c.self.view_is) (ap (λ (m : Machined). m.width) c.self.view_is) (λ e. sym behind ∙ e) c.force.ensures.tallied),
       (
         new ∷ [],
         (

@@ -16,12 +16,12 @@ returns-clause-takes c =
     let last : walk.behind ≡ [] = sym (ap {B = List (List (List ℕ))} (λ (w : Walk). w.behind) now) ∙ c.is_last.ensures.0 c.if-not-is_last.false in
     let free = right.free last in
     let store = c.forget.ensures in (
-      (λ going. right_without c.args.claim.now.picture.now c.args.self.now _ c.forget.new.self _ _ _ _ _ _ right now (ap (λ (m : Machined). m.strays) c.self.view_is) (ap (λ
+      (λ going. right_without c.args.claim.now.picture.now c.args.self.now _ c.forget.new.self _ _ _ _ _ _ _ _ right now (ap (λ (s : Stored). s.height) store ∙ ap (λ (m : Machined). m.height) c.self.view_is) (ap (λ (s : Stored). s.width) store ∙ ap (λ (m : Machined). m.width) c.self.view_is) (ap (λ (m : Machined). m.strays) c.self.view_is) (ap (λ
           (m : Machined). m.waits) c.self.view_is) (ap (λ (m : Machined). m.settled) c.self.view_is) (ap (λ (m : Machined). m.parts) c.self.view_is)
           (ap {B = List Literal} (λ (s : Stored). s.denied) store)),
       (
         last,
-        (c.in-Some._literals.now, rw (ap {B = Lemmas} (λ (w : Walk). w.lemmas) now) at c.in-Some.ensures.0),
+        (c.in-Some._found.literals.now, rw (ap {B = Lemmas} (λ (w : Walk). w.lemmas) now) at c.in-Some.ensures.0),
         ap (λ (s : Stored). Some (walk_of inside.board.at_hand inside.board.behind s.lemmas s.denied inside.stage)) store
             ∙ (ap (λ (w : Walk). Some (walk_of w.at_hand w.behind (set w.lemmas c.args.lemma None) w.denied w.stage)) now ∙ is_without walk c.args.lemma last free (right.none_denied free)),
       ),

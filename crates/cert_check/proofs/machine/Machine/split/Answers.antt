@@ -37,7 +37,7 @@ returns-clause-takes c =
     let last : new.behind ≡ [] → walk.behind ≡ [] = λ e. sym (ap {B = List Masks} (λ (w : Walk). w.behind) now) ∙ c.split.ensures.last e in
     let all = ap (λ (w : Walk). branches w.at_hand c.in-Some.cell.row c.in-Some.cell.col (cell_at w.at_hand c.in-Some.cell.row c.in-Some.cell.col) ++ w.behind) (sym now) ∙ c.split.ensures.branches in
     let next = rw (c.in-Some.ensures.1, c.in-Some.ensures.2) at all in (
-      (λ going. still_right c.args.claim.now.picture.now c.args.self.now _ new.at_hand new.behind _ _ _ _ _ _ right now c.split.ensures.last c.split.ensures.tallied),
+      (λ going. still_right c.args.claim.now.picture.now c.args.self.now _ new.at_hand new.behind _ _ _ _ _ _ _ _ right now (ap (λ (m : Machined). m.height) c.self.view_is) (ap (λ (m : Machined). m.width) c.self.view_is) c.split.ensures.last c.split.ensures.tallied),
       (
         split_at walk.at_hand c.args.at,
         (

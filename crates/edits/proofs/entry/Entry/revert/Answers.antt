@@ -28,7 +28,7 @@ deleted-requires c =
     let d = design_of c.args.document.now in
     let fits =
     reinsert_fits c.requires.0 d c.requires.1.is_design c.in-InsertLine.line (lawful c.requires.0 _ (rw c.in-InsertLine.is at c.requires.1.lawful)) (rw c.in-InsertLine.is at c.requires.1.gives) in
-    record { picture = c.know.ensures.is_picture; place = fits.0; others = fits.1; coloured = rw c.in-InsertLine.is at (step_coloured c.requires.0 (note_of c.args.self.now) d c.requires.1) }
+    record { picture = c.know.ensures.design.is_picture; place = fits.0; others = fits.1; coloured = rw c.in-InsertLine.is at (step_coloured c.requires.0 (note_of c.args.self.now) d c.requires.1) }
 
 pub restored-requires : goal.restored-requires
 restored-requires c =
@@ -36,7 +36,7 @@ restored-requires c =
     let n = note_of c.args.self.now in
     let b = c.requires.0 in
     let line = c.in-DeleteLine.line in
-    let known = c.know.ensures in
+    let known = c.know.ensures.design in
     let is_lawful = lawful b _ (rw c.in-DeleteLine.is at c.requires.1.lawful) in
     let gives = rw c.in-DeleteLine.is at c.requires.1.gives in
     let fits = redelete_fits b d c.requires.1.is_design line is_lawful gives in
@@ -58,7 +58,7 @@ swapped-requires c =
     let d = design_of c.args.document.now in
     let fits = reswap_fits c.requires.0 d c.requires.1.is_design c.in-SwapLines.axis c.in-SwapLines.first c.in-SwapLines.second (lawful c.requires.0 _ (rw c.in-SwapLines.is at c.requires.1.lawful))
     (rw c.in-SwapLines.is at c.requires.1.gives) in
-    record { picture = c.know.ensures.is_picture; first_in = fits.0; second_in = fits.1; coloured = rw c.in-SwapLines.is at (step_coloured c.requires.0 (note_of c.args.self.now) d c.requires.1) }
+    record { picture = c.know.ensures.design.is_picture; first_in = fits.0; second_in = fits.1; coloured = rw c.in-SwapLines.is at (step_coloured c.requires.0 (note_of c.args.self.now) d c.requires.1) }
 
 pub returns-in-Paint : goal.returns-in-Paint
 returns-in-Paint c =

@@ -1,13 +1,15 @@
 use Rattle.std.proofs.Common.{◌≡◌, option_copied, Some, None, ap, sym, subst, ◌∙◌, rules}
 use Rattle.std.specs.Option.{ok_or}
 use Rattle.std.proofs.lemmas.Result.{err_from_is_err_and}
+use Rattle.clues.specs.Change.{back}
 use Rattle.edits.specs.declared.fault.EditFault.TheVariants.{UndoEmpty}
 use Rattle.circular_buffer.specs.Buffer.{last_item}
+use Rattle.edits.specs.Change.{moves_of}
 use Rattle.edits.specs.Design.{Design, design_of}
-use Rattle.edits.specs.History.{Plan, IsPlanFor, ByUndo, undo_fault}
-use Rattle.edits.specs.Note.{note_of, reverted}
+use Rattle.edits.specs.History.{IsPlanFor, ByUndo, plan, undo_fault}
+use Rattle.edits.specs.Note.{IsStep, note_of, reverted}
 use Rattle.edits.specs.Studio.{history_from}
-use Rattle.edits.proofs.RingLemmas.{undo_refused, has_undo, last_step, undo_plan, last_turn_is, plan_is}
+use Rattle.edits.proofs.RingLemmas.{undo_refused, has_undo, last_step, undo_plan, last_turn_is}
 use Rattle.edits.proofs.studio.Studio.prepare_undo.Goals as goal
 
 pub returns-in_err-entry-clause-refused : goal.returns-in_err-entry-clause-refused
@@ -17,15 +19,22 @@ returns-in_err-entry-clause-refused c =
     let is : c.in_err-entry.field-0.0 ≡ UndoEmpty = cc (c.in_err-entry.ensures.value ∙ ap (λ o. ok_or o UndoEmpty) none) in
     rw (p.1, p.2, is, ← c.self.view_is) (sym (undo_refused (design_of c.self.inside.document) c.self.inside.past c.self.inside.future (sym c.back.ensures ∙ ap option_copied none)))
 
-pub undo_of-requires : goal.undo_of-requires
-undo_of-requires c =
+pub revert-requires : goal.revert-requires
+revert-requires c =
     let last : last_item c.self.inside.past.items ≡ Some c.in_ok-entry.entry.now = sym c.back.ensures ∙ ap option_copied c.in_ok-entry.ensures.ok_part in (
       reverted (design_of c.self.inside.document) (note_of c.in_ok-entry.entry.now),
       (last_step (design_of c.self.inside.document) c.self.inside.past.items c.in_ok-entry.entry.now last c.self.invariant.are_past).0,
     )
 
-pub returns-in_err-undo_of-clause-refused : goal.returns-in_err-undo_of-clause-refused
-returns-in_err-undo_of-clause-refused c =
+pub change_back-change-requires : goal.change_back-change-requires
+change_back-change-requires c =
+    let d : Design = design_of c.self.inside.document in
+    let last : last_item c.self.inside.past.items ≡ Some c.in_ok-entry.entry.now = sym c.back.ensures ∙ ap option_copied c.in_ok-entry.ensures.ok_part in
+    let step = (last_step d c.self.inside.past.items c.in_ok-entry.entry.now last c.self.invariant.are_past).0 in
+    subst (λ (before : Design). IsStep before (note_of c.in_ok-entry.entry.now) d) (sym (c.in_ok-document.ensures (reverted d (note_of c.in_ok-entry.entry.now)) step)) step
+
+pub returns-in_err-document-clause-refused : goal.returns-in_err-document-clause-refused
+returns-in_err-document-clause-refused c =
     let last : last_item c.self.inside.past.items ≡ Some c.in_ok-entry.entry.now = sym c.back.ensures ∙ ap option_copied c.in_ok-entry.ensures.ok_part in
     let none : undo_fault c.args.self.now ≡ None = ap undo_fault (sym c.self.view_is)
     ∙ has_undo (design_of c.self.inside.document) c.self.inside.past c.self.inside.future c.in_ok-entry.entry.now last in
@@ -39,29 +48,17 @@ returns-clause-lawful c =
 pub returns-clause-ready : goal.returns-clause-ready
 returns-clause-ready c =
     let d : Design = design_of c.self.inside.document in
-    let p : Plan = c.in_ok-undo_of.field-0 in
     let last : last_item c.self.inside.past.items ≡ Some c.in_ok-entry.entry.now = sym c.back.ensures ∙ ap option_copied c.in_ok-entry.ensures.ok_part in
-    let made = c.in_ok-undo_of.ensures (reverted d (note_of c.in_ok-entry.entry.now)) (last_step d c.self.inside.past.items c.in_ok-entry.entry.now last c.self.invariant.are_past).0 in
+    let gives = c.in_ok-document.ensures (reverted d (note_of c.in_ok-entry.entry.now)) (last_step d c.self.inside.past.items c.in_ok-entry.entry.now last c.self.invariant.are_past).0 in
     rw (← c.self.view_is)
-    (subst (λ (q : Plan). IsPlanFor (history_from d c.self.inside.past c.self.inside.future) q) (plan_is p ByUndo (reverted d (note_of c.in_ok-entry.entry.now)) made.advances made.gives)
-    (undo_plan d c.self.inside.past c.self.inside.future c.in_ok-entry.entry.now last c.self.invariant p.change))
-
-pub returns-clause-next : goal.returns-clause-next
-returns-clause-next c =
-    let d : Design = design_of c.self.inside.document in
-    let last : last_item c.self.inside.past.items ≡ Some c.in_ok-entry.entry.now = sym c.back.ensures ∙ ap option_copied c.in_ok-entry.ensures.ok_part in
-    rw ((c.in_ok-undo_of.ensures (reverted d (note_of c.in_ok-entry.entry.now)) (last_step d c.self.inside.past.items c.in_ok-entry.entry.now last c.self.invariant.are_past).0).advances)
+    (subst (λ (before : Design). IsPlanFor (history_from d c.self.inside.past c.self.inside.future) (plan ByUndo before c.change_back-change.result)) (sym gives)
+    (undo_plan d c.self.inside.past c.self.inside.future c.in_ok-entry.entry.now last c.self.invariant c.change_back-change.result))
 
 pub returns-clause-change : goal.returns-clause-change
 returns-clause-change c =
     let d : Design = design_of c.self.inside.document in
     let last : last_item c.self.inside.past.items ≡ Some c.in_ok-entry.entry.now = sym c.back.ensures ∙ ap option_copied c.in_ok-entry.ensures.ok_part in
+    let gives = c.in_ok-document.ensures (reverted d (note_of c.in_ok-entry.entry.now)) (last_step d c.self.inside.past.items c.in_ok-entry.entry.now last c.self.invariant.are_past).0 in
+    let by = c.change_back-change.ensures in
     rw (← c.self.view_is, last_turn_is d c.self.inside.past.items c.in_ok-entry.entry.now last)
-    (c.in_ok-undo_of.ensures (reverted d (note_of c.in_ok-entry.entry.now)) (last_step d c.self.inside.past.items c.in_ok-entry.entry.now last c.self.invariant.are_past).0).change
-
-pub returns-clause-exact : goal.returns-clause-exact
-returns-clause-exact c =
-    let d : Design = design_of c.self.inside.document in
-    let last : last_item c.self.inside.past.items ≡ Some c.in_ok-entry.entry.now = sym c.back.ensures ∙ ap option_copied c.in_ok-entry.ensures.ok_part in
-    rw (← c.self.view_is)
-    (c.in_ok-undo_of.ensures (reverted d (note_of c.in_ok-entry.entry.now)) (last_step d c.self.inside.past.items c.in_ok-entry.entry.now last c.self.invariant.are_past).0).change.exact
+    (record { moved = by.moves ∙ ap (λ (before : Design). back (moves_of c.in_ok-entry.entry.now.edit before.rows)) gives; are_moves = by.are_moves; exact = by.exact })

@@ -1,6 +1,6 @@
 use Rattle.std.proofs.Common.{refl, arith}
 use Rattle.std.proofs.lemmas.Bool.{false≢true}
-use Rattle.worklist.proofs.NameLaws.{take_counts}
+use Rattle.fixpoint.proofs.NameLaws.{take_counts}
 use Rattle.grade.proofs.WalkLemmas.{about_to_look, passes_closed, run_ends}
 use Rattle.grade.proofs.walk.Walk.next_look.Goals as goal
 

@@ -1,6 +1,6 @@
 use Rattle.std.proofs.Common.{ap, arith}
 use Rattle.grade.specs.declared.turn.Turn.{Turn}
-use Rattle.grade.proofs.Remaining.{little_left}
+use Rattle.fixpoint.proofs.LeftLaws.{little_left}
 use Rattle.grade.proofs.walk.Walk.start.Goals as goal
 
 pub returns-clause-can : goal.returns-clause-can

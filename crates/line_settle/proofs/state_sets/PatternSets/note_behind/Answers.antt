@@ -22,8 +22,8 @@ loop-i-preserved g c =
     let later = rw up at c.loop-i.invariant.later_is in
     record {
       later_is = λ pattern are.
-          before_cell pattern left drawn i (reached_of bits c.back-later.result) (omega arith) (omega arith)
-          (c.back-later.ensures pattern (get_or left i 0) (finishes pattern (drop (suc i) left)) (finishes_marked pattern (drop (suc i) left) (drop (suc i) drawn)) are
+          before_cell pattern left drawn i (reached_of bits c.pass-later.result) (omega arith) (omega arith)
+          (c.pass-later.ensures pattern (get_or left i 0) (finishes pattern (drop (suc i) left)) (finishes_marked pattern (drop (suc i) left) (drop (suc i) drawn)) are
           (c.moves_after-cell.ensures.moves pattern are) (later pattern are));
       cell_is = rw c.moves_after-cell.ensures.mask c.moves_after-cell.ensures.moves;
       noted = λ pattern are.

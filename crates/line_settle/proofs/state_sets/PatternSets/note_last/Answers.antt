@@ -3,7 +3,8 @@ use Rattle.std.proofs.lemmas.List.{length-map, map-set}
 use Rattle.line_settle.specs.Patterns.{finishes}
 use Rattle.line_settle.specs.MarkedLists.{finishes_marked, unmarked}
 use Rattle.line_settle.specs.StateSets.{sets_of}
-use Rattle.line_settle.proofs.SweepLemmas.{at_end, before_cell, noted_more, foreign_is, unmarked_back, undrawn_more, undrawn_past}
+use Rattle.line_settle.specs.Directions.End.{Back}
+use Rattle.line_settle.proofs.SweepLemmas.{at_end, before_cell, noted_more, foreign_is, undrawn_more, undrawn_past, unmarked_over}
 use Rattle.line_settle.proofs.state_sets.PatternSets.note_last.Goals as goal
 
 pub cells-init : goal.cells-init
@@ -31,9 +32,9 @@ cells-preserved g c =
       undrawn = undrawn_more sets.colours drawn i here (rw up at c.cells.invariant.undrawn);
       later_is = λ pattern are.
           let later = behind pattern are in
-          before_cell pattern left drawn i (unmarked (bits c.back-states.result)) (omega arith) (omega arith)
-          (unmarked_back g.W.Word.width pattern sets (get_or left i 0) (get_or drawn i 0) _ (finishes pattern (drop (suc i) left)) (finishes_marked pattern (drop (suc i) left) (drop (suc i) drawn))
-          are here later.marked_are (c.back-states.ensures pattern _ _ (c.moves_after-cell.ensures.moves pattern are) later.all_are));
+          before_cell pattern left drawn i (unmarked (bits c.pass-states.result)) (omega arith) (omega arith)
+          (unmarked_over Back g.W.Word.width pattern sets (get_or left i 0) (get_or drawn i 0) _ (finishes pattern (drop (suc i) left)) (finishes_marked pattern (drop (suc i) left) (drop (suc i) drawn))
+          are here later.marked_are (c.pass-states.ensures pattern _ _ (c.moves_after-cell.ensures.moves pattern are) later.all_are));
       cell_is = rw c.moves_after-cell.ensures.mask c.moves_after-cell.ensures.moves;
       noted = λ pattern are.
           let l = length-map c.cells.plain bits in

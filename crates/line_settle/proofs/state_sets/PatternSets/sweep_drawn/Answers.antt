@@ -19,7 +19,7 @@ loop-i-preserved g c =
     let drawn = c.args.drawn.now in
     let left = c.loop-i.left in
     let i = c.loop-i.i in
-    let on = reached_of bits c.reach-on.result in
+    let on = reached_of bits c.pass-on.result in
     let at_plain = get_or-map bits c.args.behind.now.plain.now i c.index-behind-i.result 0 (omega arith) in
     let at_marked = get_or-map bits c.args.behind.now.marked.now i c.index-behind-i-in-loop-i.result 0 (omega arith) in
     let meets = rw (← at_plain, ← at_marked) at c.meets_marked.ensures in
@@ -29,12 +29,12 @@ loop-i-preserved g c =
       swept = λ old start.
           let swept = c.loop-i.invariant.swept old start in
           let ons : Reaches w sets drawn left i 65535 on = λ pattern are.
-          c.reach-on.ensures pattern 65535 (reaches pattern left i) (reaches_marked pattern left drawn i) are (c.moves_by-full.ensures.moves pattern are) (swept.from_is pattern are) in
+          c.pass-on.ensures pattern 65535 (reaches pattern left i) (reaches_marked pattern left drawn i) are (c.moves_by-full.ensures.moves pattern are) (swept.from_is pattern are) in
           rw add-one (elim c.if-meets_marked.branch [
             | then-meets_marked x ↦
-                let to = reached_of bits x.reach-from.result in
-                let nexts : Reaches w sets drawn left i (get_or left i 0) to = λ pattern are. x.reach-from.ensures pattern (get_or left i 0) (reaches pattern left i)
-                (reaches_marked pattern left drawn i) are (x.moves_by.ensures.moves pattern are) (swept.from_is pattern are) in
+                let to = reached_of bits x.pass-from.result in
+                let nexts : Reaches w sets drawn left i (get_or left i 0) to = λ pattern are. x.pass-from.ensures pattern (get_or left i 0) (reaches pattern left i)
+                (reaches_marked pattern left drawn i) are (x.moves_by-moves.ensures.moves pattern are) (swept.from_is pattern are) in
                 rw (x.from-is, x.left-is) (step_kept w sets drawn _ _ old left _ on to i inside same swept ons nexts (meets.0 x.if-meets_marked.true))
             | else-meets_marked x ↦ rw (x.from-is, x.left-is) (step_out w sets drawn _ _ old left _ on i inside same swept ons (λ s. false≢true (sym x.if-meets_marked.false ∙ meets.1 s)))
           ]);

@@ -3,7 +3,8 @@ use Rattle.line_settle.specs.Patterns.{reaches}
 use Rattle.line_settle.specs.MarkedLists.{reaches_marked, unmarked}
 use Rattle.line_settle.specs.StateSets.{sets_of}
 use Rattle.std.proofs.lemmas.List.{get_or-map}
-use Rattle.line_settle.proofs.SweepLemmas.{Reaches, first_reached, foreign_is, none_swept, step_kept, step_out, share_test, test_first, unmarked_forward}
+use Rattle.line_settle.specs.Directions.End.{Front}
+use Rattle.line_settle.proofs.SweepLemmas.{Reaches, first_reached, foreign_is, none_swept, step_kept, step_out, share_test, test_first, unmarked_over}
 use Rattle.line_settle.proofs.state_sets.PatternSets.sweep_first.Goals as goal
 use Rattle.line_settle.proofs.state_sets.PatternSets.sweep_first.Goals.{then-is_none, else-is_none}
 
@@ -27,7 +28,7 @@ cells-preserved g c =
     let marked = map bits c.args.behind.now.marked.now in
     let left = c.cells.left in
     let i = c.cells.at in
-    let on = bits c.forward-on.result in
+    let on = bits c.pass-on.result in
     let swept = c.cells.invariant.swept in
     let inside : i < length left = omega arith in
     let same : length drawn ≡ length left = omega arith in
@@ -38,18 +39,18 @@ cells-preserved g c =
     let first = test_first on (get_or (map bits c.args.behind.now.plain.now) i 0) (get_or marked i 0) in
     let ons : Reaches w sets drawn left i 65535 (unmarked on) = λ pattern are.
     (let from = swept.from_is pattern are in
-    unmarked_forward w pattern sets 65535 (get_or drawn i 0) on (reaches pattern left i) (reaches_marked pattern left drawn i) are foreign from.marked_are
-    (c.forward-on.ensures pattern 65535 (reaches pattern left i) (c.moves_by-full.ensures.moves pattern are) from.all_are)) in
+    unmarked_over Front w pattern sets 65535 (get_or drawn i 0) on (reaches pattern left i) (reaches_marked pattern left drawn i) are foreign from.marked_are
+    (c.pass-on.ensures pattern 65535 (reaches pattern left i) (c.moves_by-full.ensures.moves pattern are) from.all_are)) in
     record {
       inside = omega arith;
       swept = rw add-one (elim c.if-is_none.branch [
         | then-is_none x ↦ rw (x.states-is, x.left-is) (step_out w sets drawn _ _ _ left _ (unmarked on) i inside same swept ons (λ s. test.1 x.if-is_none.true (first.0 s)))
         | else-is_none x ↦
-            let to = bits x.forward-states.result in
+            let to = bits x.pass-states.result in
             let nexts : Reaches w sets drawn left i (get_or left i 0) (unmarked to) = λ pattern are.
             (let from = swept.from_is pattern are in
-            unmarked_forward w pattern sets (get_or left i 0) (get_or drawn i 0) to (reaches pattern left i) (reaches_marked pattern left drawn i) are foreign from.marked_are
-            (x.forward-states.ensures pattern _ (reaches pattern left i) (x.moves_by.ensures.moves pattern are) from.all_are)) in
+            unmarked_over Front w pattern sets (get_or left i 0) (get_or drawn i 0) to (reaches pattern left i) (reaches_marked pattern left drawn i) are foreign from.marked_are
+            (x.pass-states.ensures pattern _ (reaches pattern left i) (x.moves_by.ensures.moves pattern are) from.all_are)) in
             rw (x.states-is, x.left-is) (step_kept w sets drawn _ _ _ left _ (unmarked on) (unmarked to) i inside same swept ons nexts (inr (test.0 x.if-is_none.false)))
       ]);
     }

@@ -19,7 +19,7 @@ loop-place-preserved g c =
     let plain = map bits c.args.behind.now.plain.now in
     let left = c.loop-place.left in
     let i = c.loop-place.place in
-    let on = bits c.forward-on.result in
+    let on = bits c.pass-on.result in
     let inside : i < length left = omega arith in
     let same : length drawn ≡ length left = omega arith in
     let none : IsUndrawn sets.colours drawn i = λ j h. c.requires.undrawn j (omega arith) in
@@ -30,13 +30,13 @@ loop-place-preserved g c =
       swept = λ old start.
           let swept = c.loop-place.invariant.swept old start in
           let ons : Marks w sets drawn left i 65535 on =
-          λ pattern are. c.forward-on.ensures pattern 65535 (reaches_marked pattern left drawn i) (c.moves_by-full.ensures.moves pattern are) (swept.from_is pattern are) in
+          λ pattern are. c.pass-on.ensures pattern 65535 (reaches_marked pattern left drawn i) (c.moves_by-full.ensures.moves pattern are) (swept.from_is pattern are) in
           rw add-one (elim c.if-is_none.branch [
             | then-is_none x ↦ rw (x.marked-is, x.left-is) (last_out w sets drawn _ _ old left _ on i inside same none swept ons (test.1 x.if-is_none.true))
             | else-is_none x ↦
-                let to = bits x.forward-marked.result in
+                let to = bits x.pass-marked.result in
                 let nexts : Marks w sets drawn left i (get_or left i 0) to =
-                λ pattern are. x.forward-marked.ensures pattern (get_or left i 0) (reaches_marked pattern left drawn i) (x.moves_by.ensures.moves pattern are) (swept.from_is pattern are) in
+                λ pattern are. x.pass-marked.ensures pattern (get_or left i 0) (reaches_marked pattern left drawn i) (x.moves_by.ensures.moves pattern are) (swept.from_is pattern are) in
                 rw (x.marked-is, x.left-is) (last_kept w sets drawn _ _ old left _ on to i inside same none swept ons nexts (test.0 x.if-is_none.false))
           ]);
     }

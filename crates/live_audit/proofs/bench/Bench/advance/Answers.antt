@@ -2,7 +2,7 @@ use Rattle.std.proofs.Common.{ap, subst, sym, ◌≤◌}
 use Rattle.picture.specs.declared.picture.TheConstants.{MAX_SIDE}
 use Rattle.clues.specs.Change.{Changes}
 use Rattle.edits.specs.Design.{Design}
-use Rattle.kept_audit.specs.Audit.{IsAuditOf}
+use Rattle.live_audit.specs.Audit.{IsAuditOf}
 use Rattle.live_audit.specs.Bench.{AreAnswersOf, Seen}
 use Rattle.live_audit.proofs.CarryLemmas.{carries_on, goes_to}
 use Rattle.live_audit.proofs.DepthLemmas.{fits}

@@ -1,7 +1,7 @@
 use Rattle.std.proofs.Common.{ap, refl}
 use Rattle.live_audit.specs.Bench.{Seen}
 use Rattle.live_audit.specs.Stroke.{Redoes}
-use Rattle.live_audit.proofs.AuditLemmas.{accepted, forth_by}
+use Rattle.live_audit.proofs.BenchLemmas.{accepted, forth_by}
 use Rattle.live_audit.proofs.bench.Bench.redo.Goals as goal
 
 pub advance-requires-clause-change : goal.advance-requires-clause-change

@@ -1,7 +1,7 @@
 use Rattle.std.proofs.Common.{ap, refl}
 use Rattle.live_audit.specs.Bench.{Seen}
 use Rattle.live_audit.specs.Stroke.{Undoes}
-use Rattle.live_audit.proofs.AuditLemmas.{accepted, back_by}
+use Rattle.live_audit.proofs.BenchLemmas.{accepted, back_by}
 use Rattle.live_audit.proofs.bench.Bench.undo.Goals as goal
 
 pub advance-requires-clause-change : goal.advance-requires-clause-change

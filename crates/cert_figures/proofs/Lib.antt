@@ -1,2 +1,0 @@
-pub mod AheadLemmas
-pub mod BranchLemmas

@@ -1,4 +1,0 @@
-use Rattle.cert_figures.proofs.nesting.tree_depth.Goals as goal
-
-pub returns-clause-depth : goal.returns-clause-depth
-returns-clause-depth g c = λ tree t. absurd (c.in-Err.ensures.outside (rw c.givens.ensures t.0))

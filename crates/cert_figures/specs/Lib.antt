@@ -1,2 +1,0 @@
-pub mod Guessing
-pub mod Nesting

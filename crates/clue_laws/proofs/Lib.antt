@@ -1,2 +1,0 @@
-pub mod PlacementLemmas
-pub mod RunLemmas

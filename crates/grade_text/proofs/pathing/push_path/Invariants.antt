@@ -1,7 +1,0 @@
-use Rattle.std.proofs.Common.{◌≡◌, ◌++◌, take}
-use Rattle.std.specs.List.{flat_map}
-use Rattle.grade_text.specs.PathText.{look_text}
-use Rattle.grade_text.proofs.pathing.push_path.Given as goal
-
-abbrev pub invariant-loop-look : goal.invariant-loop-look
-invariant-loop-look l = l.text.items ≡ l.fn.text.items ++ flat_map look_text (take l.look-index l.path.looks.items)

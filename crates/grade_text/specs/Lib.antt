@@ -1,2 +1,0 @@
-pub mod GradeText
-pub mod PathText

@@ -1,5 +1,0 @@
-use Rattle.kept_audit.proofs.AuditLemmas.{base_for}
-use Rattle.kept_audit.proofs.audit.base_of.Goals as goal
-
-pub returns : goal.returns
-returns c = base_for c.args.document.now _ c.args.document.now.inside c.height.ensures.picture c.in_ok-base.ensures

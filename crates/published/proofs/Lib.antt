@@ -1,5 +1,0 @@
-pub mod FitLemmas
-pub mod PairLemmas
-pub mod PrintLemmas
-pub mod ProofLemmas
-pub mod SolutionLemmas

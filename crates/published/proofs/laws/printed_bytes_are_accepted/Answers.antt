@@ -1,5 +1,0 @@
-use Rattle.published.proofs.PrintLemmas.{printed}
-use Rattle.published.proofs.laws.printed_bytes_are_accepted.Goals as goal
-
-pub returns : goal.returns
-returns g c = printed c.args.bench.now c.published_pairs_are_accepted.ensures.accepted

@@ -1,5 +1,0 @@
-use Rattle.published.proofs.ProofLemmas.{proofs_verified}
-use Rattle.published.proofs.laws.proofs_are_verified.Goals as goal
-
-pub returns : goal.returns
-returns c = proofs_verified

@@ -1,4 +1,0 @@
-pub mod ColourLemmas
-pub mod StepLemmas
-pub mod ToldLemmas
-pub mod ProofLemmas

@@ -1,4 +1,0 @@
-pub mod StackLemmas
-pub mod OrderLemmas
-pub mod AlongLemmas
-pub mod NameLaws

@@ -1,2 +1,0 @@
-pub mod Agenda
-pub mod Orders
