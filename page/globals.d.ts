@@ -12,5 +12,9 @@ declare var HAS_TEXTS_APART: boolean | undefined;
 
 // The values that a text has places for (texts/phrase.js): `{name}`, or `{name|form|form}`.
 type NameOf<Inside extends string> = Inside extends `${infer Name}|${string}` ? Name : Inside;
-type HolesOf<Text extends string> = Text extends `${string}{${infer Inside}}${infer Rest}` ? NameOf<Inside> | HolesOf<Rest> : never;
-type ValuesOf<Text extends string> = [HolesOf<Text>] extends [never] ? [] : [{ [name in HolesOf<Text>]: string | number }];
+type HolesOf<Text extends string> = Text extends `${string}{${infer Inside}}${infer Rest}`
+  ? NameOf<Inside> | HolesOf<Rest>
+  : never;
+type ValuesOf<Text extends string> = [HolesOf<Text>] extends [never]
+  ? []
+  : [{ [name in HolesOf<Text>]: string | number }];

@@ -19,7 +19,12 @@ import {showStart, startStart} from './start/start.js';
 import {startTours} from './start/tour.js';
 import {DIRECTION, LANGUAGE, phrase} from './texts/phrase.js';
 import {actionButton, actions, hearKeys, keyText, makeMenus} from './view/actions.js';
-import {addColourActions, addEditActions, addPictureActions, addViewActions} from './view/commands.js';
+import {
+  addColourActions,
+  addEditActions,
+  addPictureActions,
+  addViewActions
+} from './view/commands.js';
 import {startCut} from './view/cut.js';
 import {startFixing} from './view/fixing.js';
 import {startGrading} from './view/grading.js';
@@ -44,7 +49,6 @@ startVerdict();
 startFixing();
 startGrading();
 startTurning();
-startSafe();
 startPlay();
 startCourse();
 startWhy();
@@ -65,6 +69,7 @@ addEditActions();
 addPictureActions();
 startPalettes();
 addViewActions();
+startSafe();
 startTracing();
 startAdjusting();
 startLanguage();
@@ -115,12 +120,12 @@ function nameParts() {
 
 // Undo and redo in the header, and what is seen of the picture at its lower right, as icons.
 function makeQuickButtons() {
-  const rooms = {quick: ['undo', 'redo'], zoom: ['bare', 'zoom-out', 'fit', 'zoom-in']};
-  for (const [room, ids] of Object.entries(rooms)) {
+  const bars = {quick: ['undo', 'redo'], zoom: ['bare', 'zoom-out', 'fit', 'zoom-in']};
+  for (const [bar, ids] of Object.entries(bars)) {
     for (const id of ids) {
       const {name, key} = actions.get(id);
       const icon = {bare: 'picture', 'zoom-out': 'minus', 'zoom-in': 'plus'}[id] ?? id;
-      $(room).append(withIcon(actionButton(actions.get(id)), icon, name, keyText(key.split(' ')[0]))
+      $(bar).append(withIcon(actionButton(actions.get(id)), icon, name, keyText(key.split(' ')[0]))
       );
     }
   }

@@ -24,6 +24,11 @@ export const make = (name, attributes = {}, ...children) => {
   return element;
 };
 
+/** Writes a text into an element, if it has another one: what is written is laid out again. */
+export const write = (element, text) => {
+  if (element.textContent !== text) element.textContent = text;
+};
+
 /** Makes a button. */
 export const buttonOf = (id, name, run, more = {}) =>
     make('button', {type: 'button', id, onclick: run, ...more}, name);

@@ -33,8 +33,8 @@ export const gradeName = (word) =>
 /**
  * The place of a grade among all, the easiest first, and of a verdict; below 0 for what is none.
  */
-export const gradePlace = (word) => Object.keys(GRADE_NAMES).indexOf(keyOf(word));
-export const verdictPlace = (word) => Object.keys(VERDICTS).indexOf(word);
+export const gradeRank = (word) => Object.keys(GRADE_NAMES).indexOf(keyOf(word));
+export const verdictRank = (word) => Object.keys(VERDICTS).indexOf(word);
 
 /** A verdict in words; what is none stays as it is. */
 export const verdictName = (word) => (VERDICTS[word] ? phrase(VERDICTS[word]) : word);

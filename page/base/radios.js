@@ -15,13 +15,13 @@ export function radioGroup(group, pick) {
     if (button) pick(button, false);
   });
   group.addEventListener('keydown', (event) => {
-    const way = {ArrowDown: 1, ArrowRight: 1, ArrowUp: -1, ArrowLeft: -1}[event.key];
-    if (!way) return;
+    const step = {ArrowDown: 1, ArrowRight: 1, ArrowUp: -1, ArrowLeft: -1}[event.key];
+    if (!step) return;
     const buttons = [...group.querySelectorAll('button')];
     event.preventDefault();
     event.stopPropagation();
     const next =
-        buttons.at((buttons.indexOf(event.target.closest('button')) + way) % buttons.length);
+        buttons.at((buttons.indexOf(event.target.closest('button')) + step) % buttons.length);
     pick(next, true);
     next.focus();
   });

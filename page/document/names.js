@@ -118,7 +118,7 @@ function plainOf(triples, names) {
 
 // What tells colours of one name apart, the lightest first: two light or dark ones by two steps,
 // unless one is another's.
-function toldApart(name, at, count, others) {
+function distinctName(name, at, count, others) {
   if (count === 1) return name;
   if (count > 2) return `${name} ${at + 1}`;
   const steps = STEPS.find((pair) => pair.includes(name));
@@ -144,13 +144,13 @@ export function namesOf({colours, maxval = 255, inks = []}, whole = WHOLE) {
     const alike = [...plain.keys()].filter(
                                        (one) => plain[one] === name
     ).sort((one, other) => lightness(triples[other]) - lightness(triples[one]) || one - other);
-    let told = toldApart(
+    let distinct = distinctName(
         name, alike.indexOf(at), alike.length, [...own, ...plain.filter((one) => one !== name)]
     );
-    if (!whole[hexes[at]] && Object.values(whole).includes(told) && names.includes(told))
-      told = phrase(told === WHOLE.ffffff ? 'document.darker' : 'document.lighter', {name});
-    while (names.includes(told)) told = `${told} (${LETTERS[at]})`;
-    names[at] = told;
+    if (!whole[hexes[at]] && Object.values(whole).includes(distinct) && names.includes(distinct))
+      distinct = phrase(distinct === WHOLE.ffffff ? 'document.darker' : 'document.lighter', {name});
+    while (names.includes(distinct)) distinct = `${distinct} (${LETTERS[at]})`;
+    names[at] = distinct;
   }
   return names;
 }

@@ -84,7 +84,7 @@ const TURNS = {
 };
 
 /** A document mirrored ('across', 'down') or turned ('right', 'left'). */
-export const turned = (doc, way) => TURNS[way](doc);
+export const turned = (doc, turn) => TURNS[turn](doc);
 
 /** A document moved by rows and columns; what leaves at one edge comes in at the other. */
 export function shifted(doc, down, across) {

@@ -4,31 +4,47 @@
 
 const linesOf = (place, columns) => [`r${Math.floor(place / columns)}`, `c${place % columns}`];
 
-/** The groups, each as its places in ascending order. */
-export function turningPlaces(picture, other) {
-  const columns = picture[0].length;
-  const inLine = new Map();
-  const left = new Set();
-  picture.forEach((row, at) => [...row].forEach((letter, col) => {
-    if (letter === other[at][col]) return;
-    const place = at * columns + col;
-    left.add(place);
-    for (const line of linesOf(place, columns))
-      inLine.set(line, [...inLine.get(line) ?? [], place]);
-  }));
-  const groups = [];
-  for (const first of left) {
-    const group = new Set([first]);
-    for (const place of group) {  // it grows meanwhile
-      left.delete(place);
-      for (const line of linesOf(place, columns)) {
-        for (const one of inLine.get(line) ?? []) group.add(one);
-        inLine.delete(line);
-      }
+// The places that one is connected with by lines. The lines are taken out of `inLine`, which has
+// the places of each.
+function groupOf(first, inLine, linesIn) {
+  const group = new Set([first]);
+  for (const place of group) {  // it grows meanwhile
+    for (const line of linesIn(place)) {
+      for (const one of inLine.get(line) ?? []) group.add(one);
+      inLine.delete(line);
     }
-    groups.push([...group].sort((one, another) => one - another));
+  }
+  return group;
+}
+
+/**
+ * Places in groups that share no line, each in ascending order. `linesIn` answers the lines of a
+ * place.
+ */
+export function groupsByLines(places, linesIn) {
+  const inLine = new Map();
+  for (const place of places) {
+    for (const line of linesIn(place)) {
+      if (!inLine.has(line)) inLine.set(line, []);
+      inLine.get(line).push(place);
+    }
+  }
+  const [left, groups] = [new Set(places), []];
+  for (const first of left) {
+    const group = groupOf(first, inLine, linesIn);
+    for (const place of group) left.delete(place);
+    groups.push([...group].sort((one, other) => one - other));
   }
   return groups;
+}
+
+/** The groups of places in which two pictures differ. */
+export function turningPlaces(picture, other) {
+  const columns = picture[0].length;
+  const others = other.join('');
+  const differing =
+      [...picture.join('')].flatMap((letter, place) => (letter === others[place] ? [] : [place]));
+  return groupsByLines(differing, (place) => linesOf(place, columns));
 }
 
 /** All places of the lines that some places lie in. */

@@ -20,9 +20,9 @@ export function withoutUnused(doc, clues = null) {
   if (!hasUnused(doc) || doc.extras?.solutions?.length) return {doc, clues};
   const blocks = clues ? [...clues.rows, ...clues.columns].flat() : [];
   const used = new Set([...usedLetters(doc), ...blocks.map(({letter}) => letter)]);
-  const kept = [...LETTERS].filter((letter) => letter === '.' || used.has(letter));
-  const places = kept.map((letter) => LETTERS.indexOf(letter));
-  const named = (letter) => LETTERS[kept.indexOf(letter)];
+  const letters = [...LETTERS].filter((letter) => letter === '.' || used.has(letter));
+  const places = letters.map((letter) => LETTERS.indexOf(letter));
+  const named = (letter) => LETTERS[letters.indexOf(letter)];
   const ofAxis = (lines) =>
       lines.map((blocks) => blocks.map((block) => ({...block, letter: named(block.letter)})));
   return {

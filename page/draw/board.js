@@ -13,7 +13,11 @@
 import {cssOf, hexOf, inkOn, lightness} from '../document/colours.js';
 import {LETTERS} from '../document/limits.js';
 
-const DIGIT = 0.58;  // the width of a digit by its size
+// Widths by the size of the text.
+const DIGIT = 0.58;       // of a digit or a letter
+const WIDE_DIGIT = 0.64;  // of one on paper, in the widest of usual fonts
+const SIGN = 1.1;         // of a sign, or an m
+const SPACE = 0.3;        // between numbers around which nothing is drawn
 
 /** What a look has of a document: its colours, and what is read on them. */
 export const coloursOf = (doc, isPaper = false) => ({
@@ -91,8 +95,8 @@ export const drawGiven = (surface, x, y, side) => surface.polygon(
 
 const signOf = (look, letter) => (look.signs ? look.signs[LETTERS.indexOf(letter)] : '');
 export const blockText = (look, block) => `${block.length}${signOf(look, block.letter)}`;
-const widthOf = (text) => [...text].reduce(
-    (sum, sign) => sum + (sign > 'z' || sign === 'm' ? 1.1 : DIGIT), 0
+const widthOf = (text, digit = DIGIT) => [...text].reduce(
+    (sum, sign) => sum + (sign > 'z' || sign === 'm' ? SIGN : digit), 0
 );  // by its size
 
 /** How wide the frame of a box is, by its side. */
@@ -121,12 +125,18 @@ function drawBox(surface, look, at, {x, y, width, height}) {
   });
 }
 
+// The size of a text that is as wide as its box, within its frame or with its space.
+function sizeOnPaper({style}, text, width) {
+  const wide = widthOf(text, WIDE_DIGIT);
+  return style === 'box' ? (width * (1 - 2 * FRAME)) / wide : width / (wide + SPACE);
+}
+
 /** The size of the text of a block in its box. */
-export const textSize = (look, block, {width, height}) => Math.min(
-    look.font,
-    height,
-    (width * (look.style === 'box' ? 1 - 2 * FRAME : 1)) / widthOf(blockText(look, block))
-);
+export function textSize(look, block, {width, height}) {
+  const text = blockText(look, block);
+  const most = look.style === 'chip' ? width / widthOf(text) : sizeOnPaper(look, text, width);
+  return Math.min(look.font, height, most);
+}
 
 /** One block of a clue in its box. */
 export function drawBlock(surface, look, block, {x, y, width, height}) {

@@ -20,7 +20,7 @@ export class Cells {
   }
 
   /** Draws all that is seen anew. */
-  all(sheet) {
+  drawAll(sheet) {
     const {pen} = this;
     const {geometry: at} = sheet;
     pen.fillStyle = sheet.inks.paper;
@@ -29,33 +29,35 @@ export class Cells {
     this.prepare(sheet);
     this.clip(sheet);
     drawRules(this.surface, this.look, sheet.boardFrame());
-    this.changed(sheet, true);
+    this.drawChanged(sheet, true);
     pen.restore();
   }
 
-  /** Draws the cells whose look is another one; `clipped` where the room is set already. */
-  changed(sheet, clipped = false) {
+  // Draws the cells of a row whose look is another one, some that look alike at once.
+  #drawRow(sheet, row, left, right) {
+    const first = row * sheet.geometry.columns;
+    for (let col = left, end; col <= right; col = end) {
+      end = col + 1;
+      const look = sheet.lookOf(row, col);
+      if (look === this.drawn[first + col]) continue;
+      if (look < HATCHED || this.isSmall)
+        while (end <= right && sheet.lookOf(row, end) === look) end++;
+      this.span(sheet, row, col, end, look);
+      this.drawn.fill(look, first + col, first + end);
+    }
+  }
+
+  /** Draws the cells whose look is another one; `clipped` where that area is set already. */
+  drawChanged(sheet, clipped = false) {
     if (!this.look) return;
     const {top, left, bottom, right} = sheet.geometry.seen();
-    const {columns} = sheet.geometry;
     if (!clipped) this.clip(sheet);
-    for (let row = top; row <= bottom; row++) {
-      for (let col = left; col <= right; col++) {
-        const look = sheet.lookOf(row, col);
-        if (look === this.drawn[row * columns + col]) continue;
-        let end = col + 1;
-        if (look < HATCHED || this.isSmall)
-          while (end <= right && sheet.lookOf(row, end) === look) end++;
-        this.span(sheet, row, col, end, look);
-        this.drawn.fill(look, row * columns + col, row * columns + end);
-        col = end - 1;
-      }
-    }
+    for (let row = top; row <= bottom; row++) this.#drawRow(sheet, row, left, right);
     if (!clipped) this.pen.restore();
   }
 
   /** Draws some cells, given by their places. */
-  some(sheet, places) {
+  drawSome(sheet, places) {
     if (!this.look) return;
     const {top, left, bottom, right} = sheet.geometry.seen();
     const {columns} = sheet.geometry;

@@ -76,7 +76,7 @@ export class Geometry {
   // How much room all clues want with a cell of this size, at most a part of what there is. `spare`
   // blocks more may come, and where they may, a quarter of what a line has cells: drawn narrower,
   // clues of twice as many blocks have room there.
-  room(cell, spare = 1) {
+  margins(cell, spare = 1) {
     if (this.isBare) return this.edges();
     const font = this.fontFor(cell);
     const isTiny = cell < 7 * this.scale;
@@ -120,7 +120,7 @@ export class Geometry {
     const [margin, tight] = [MARGIN * this.scale, TIGHT * this.scale];
     for (let side = LARGEST; side >= SMALLEST; side--) {
       const cell = Math.round(side * this.scale);
-      const {left, top} = this.room(cell);
+      const {left, top} = this.margins(cell);
       if (left + this.columns * cell + margin <= this.width &&
           top + this.rows * cell + tight <= this.height)
         return {cell, isFolded: false};
@@ -161,7 +161,7 @@ export class Geometry {
   }
 
   spread() {
-    Object.assign(this, this.isFolded ? this.edges() : this.room(this.cell));
+    Object.assign(this, this.isFolded ? this.edges() : this.margins(this.cell));
     this.font = this.fontFor(this.cell);
     this.pitch = this.pitchFor(this.cell);
     // A picture smaller than its room stands in the middle with the clues that it has, somewhat
@@ -172,7 +172,7 @@ export class Geometry {
       free(this.width - this.left, this.columns * this.cell, margin),
       free(this.height - this.top, this.rows * this.cell, TIGHT * this.scale)
     ];
-    const spare = this.isFolded ? 0 : this.left - this.room(this.cell, 0).left;
+    const spare = this.isFolded ? 0 : this.left - this.margins(this.cell, 0).left;
     this.slack = {
       x: Math.floor(clamp((across + margin - spare) / 2, 0, across)),
       y: Math.floor(down / 3)
@@ -186,7 +186,7 @@ export class Geometry {
    */
   grow() {
     if (this.isFolded) return false;
-    const {left, top} = this.room(this.cell, 0);
+    const {left, top} = this.margins(this.cell, 0);
     let [more, higher] = [Math.max(0, left - this.left), Math.max(0, top - this.top)];
     if (!more && !higher) return false;
     if (this.isFitted) {
@@ -201,9 +201,9 @@ export class Geometry {
   }
 
   /** The size of a cell one step larger or smaller: by a share of it, at least by a pixel. */
-  step(way, share) {
-    const next = this.cell + way * Math.max(1, Math.round(this.cell / share));
-    return next >= this.least ? next : way > 0 ? this.least : 1;
+  step(direction, share) {
+    const next = this.cell + direction * Math.max(1, Math.round(this.cell / share));
+    return next >= this.least ? next : direction > 0 ? this.least : 1;
   }
 
   /**
@@ -290,16 +290,16 @@ export class Geometry {
 
   /** Moves the picture until a cell is seen whole. */
   reveal(row, col) {
-    const [x, y, room] = [this.x(col), this.y(row), this.cell];
+    const [x, y, side] = [this.x(col), this.y(row), this.cell];
     let [dx, dy] = [0, 0];
-    if (x < this.originX + room)
-      dx = x - this.originX - room;
-    else if (x + 2 * room > this.width)
-      dx = x + 2 * room - this.width;
-    if (y < this.originY + room)
-      dy = y - this.originY - room;
-    else if (y + 2 * room > this.height)
-      dy = y + 2 * room - this.height;
+    if (x < this.originX + side)
+      dx = x - this.originX - side;
+    else if (x + 2 * side > this.width)
+      dx = x + 2 * side - this.width;
+    if (y < this.originY + side)
+      dy = y - this.originY - side;
+    else if (y + 2 * side > this.height)
+      dy = y + 2 * side - this.height;
     const [beforeX, beforeY] = [this.panX, this.panY];
     this.pan(dx, dy);
     return this.panX !== beforeX || this.panY !== beforeY;

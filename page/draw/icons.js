@@ -1,4 +1,4 @@
-// The icons of the page, drawn in one hand: lines of one weight on a field of 20 by 20.
+// The icons of the page, drawn in one style: lines of one weight on a field of 20 by 20.
 
 import {svgPart} from '../base/elements.js';
 
@@ -18,11 +18,11 @@ const PATHS = {
   lock: 'M4.5 9h11v7.5h-11zM7 9V6.5a3 3 0 016 0V9',
   why: 'M6.5 7.5a3.5 3.5 0 117 0c0 2.5-3.5 2.5-3.5 5M10 15.8v.2',
   // symmetry of the pens
-  none: 'M10 3v14M7 6L3.5 14H7zM13 6l3.5 8H13z',
+  none: 'M10 3v2M10 7.3v2M10 11.6v2M10 16v1M7 6L3.5 14H7z',
   across: 'M10 3v14M7 6L3.5 14H7zM13 6l3.5 8H13z',
   down: 'M3 10h14M6 7l8-3.5V7zM6 13l8 3.5V13z',
   both: 'M10 3v14M3 10h14M7 7H4M13 7h3M7 13H4M13 13h3',
-  quarter: 'M14.5 6A6 6 0 104 10M14.5 2.5V6H11M10 8v4M8 10h4',
+  quarter: 'M15.2 7a6 6 0 100 6M15.2 3v4h-4M10 8v4M8 10h4',
   // history and view
   undo: 'M7 4L3.5 7.5 7 11M3.5 7.5H12a4.25 4.25 0 010 8.5H7.5',
   redo: 'M13 4l3.5 3.5L13 11M16.5 7.5H8A4.25 4.25 0 008 16h4.5',

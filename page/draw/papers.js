@@ -5,7 +5,17 @@ import {hexOf, lightness, oklabOf, tintOf} from '../document/colours.js';
 import {columnOf, eightBitDoc, rowOf} from '../document/document.js';
 import {LETTERS} from '../document/limits.js';
 import {nearPairs} from '../document/near.js';
-import {FRAME, coloursOf, drawClue, drawGiven, drawRules, drawSign, edges, textSize, wholeFrame} from './board.js';
+import {
+  FRAME,
+  coloursOf,
+  drawClue,
+  drawGiven,
+  drawRules,
+  drawSign,
+  edges,
+  textSize,
+  wholeFrame
+} from './board.js';
 import {penOf} from './small.js';
 import {CanvasSurface} from './surface.js';
 
@@ -16,7 +26,7 @@ const SIGNS = '■●▲▼★♥♣♠▶◀✚✖☀☂♪';  // one a colour,
 /** From this size on, in millimetres, numbers are read easily. */
 export const LEAST_TEXT = 2;
 const PALE = 215;                         // from this lightness on white paper an edge is wanted
-const ROOM = 0.88;                        // of a cell's side, for a block of a clue
+const ROOM = 0.88;                        // of a cell's side, for a box of a clue
 const FRAMED = 1 - (1 - 2 * FRAME) ** 2;  // of a box's area, its frame
 // in Oklab, on the mean over a box: so far apart are colours that are just not too similar
 const ALIKE = 0.065;
@@ -40,13 +50,13 @@ function paperLook(surface, doc, cell, show) {
   const weight = (share, least) =>
       (isWhole ? Math.max(least, Math.round(cell * share)) : cell * share);
   const {fills, inks} = coloursOf(doc, true);
-  const told = shownAs(doc, show);
+  const shown = shownAs(doc, show);
   return {
     fills,
     inks,
-    signs: told === 'letters' ? LETTERS :
-        told === 'signs'      ? signsOf(doc) :
-                                null,
+    signs: shown === 'letters' ? LETTERS :
+        shown === 'signs'      ? signsOf(doc) :
+                                 null,
     family: PAPER_FAMILY,
     thin: weight(1 / 50, 1),
     wide: weight(1 / 12, 2),
@@ -66,6 +76,9 @@ function paperLook(surface, doc, cell, show) {
     weight: 400,
   };
 }
+
+// The room of a block of a clue, by a cell's side: numbers without a box have all of it.
+const roomOf = ({style}) => (style === 'box' ? ROOM : 1);
 
 // How clues look: of one ink they are numbers alone.
 const clueLook = (look, doc) => (hasOneInk(doc) ? {...look, signs: null} : look);
@@ -145,9 +158,9 @@ export function canvasPaper(puzzle, cell) {
 export function smallestText(puzzle, show) {
   const doc = eightBitDoc(puzzle.doc);
   const look = clueLook(paperLook({}, doc, 1, show), doc);
+  const room = {width: roomOf(look), height: roomOf(look)};
   return [...puzzle.clues.rows, ...puzzle.clues.columns].flat().reduce(
-      (least, block) => Math.min(least, textSize(look, block, {width: ROOM, height: ROOM})),
-      look.font
+      (least, block) => Math.min(least, textSize(look, block, room)), look.font
   );
 }
 
@@ -237,17 +250,21 @@ function drawGivenCells(board) {
 }
 
 // One shape for a run of one colour, and on it a sign a cell where signs tell colours.
+function drawRun(board, row, from, to) {
+  const {surface, doc, look} = board;
+  const at = LETTERS.indexOf(doc.picture[row][from]);
+  if (look.fills[at] !== '#ffffff') surface.rect(...boxOf(board, row, from, to), look.fills[at]);
+  if (look.signs && at > 0)
+    for (let col = from; col < to; col++) drawPaperSign(board, row, col, at, look.inks[at]);
+}
+
 function drawSolution(board) {
-  const {surface, doc, look, frame: {top, left, bottom, right}} = board;
+  const {doc, frame: {top, left, bottom, right}} = board;
   for (let row = top; row <= bottom; row++) {
     const letters = doc.picture[row];
     for (let from = left, to; from <= right; from = to) {
       for (to = from + 1; to <= right && letters[to] === letters[from];) to++;
-      const at = LETTERS.indexOf(letters[from]);
-      if (look.fills[at] !== '#ffffff')
-        surface.rect(...boxOf(board, row, from, to), look.fills[at]);
-      if (look.signs && at > 0)
-        for (let col = from; col < to; col++) drawPaperSign(board, row, col, at, look.inks[at]);
+      drawRun(board, row, from, to);
     }
   }
 }
@@ -258,13 +275,10 @@ function drawPaperClues({surface, doc, look: ofCells, frame}, clues, smallest) {
   const own = clueLook(ofCells, doc);
   const look = own.signs && smallest >= LEAST_TEXT ? {...own, font: smallest} : own;
   const {x, y, cell, top, left, bottom, right} = frame;
-  const place = {
-    far: -Infinity,
-    gap: (1 - ROOM) * cell,
-    unit: 1,
-    sizeOf: () => ({width: ROOM * cell, height: ROOM * cell})
-  };
-  const away = cell * (0.25 + (1 - ROOM) / 2);
+  const room = roomOf(look) * cell;
+  const place =
+      {far: -Infinity, gap: cell - room, unit: 1, sizeOf: () => ({width: room, height: room})};
+  const away = cell * 0.25 + (cell - room) / 2;
   if (left === 0)
     for (let row = top; row <= bottom; row++)
       drawClue(surface, look, 'r', clues.rows[row], {

@@ -44,11 +44,11 @@ class Sheet {
     this.hatching = 'open';    // 'off', 'differing' or 'open'
     this.other = false;        // whether the other picture is shown
     this.reason = null;
-    this.held = null;  // a line that is dragged: {axis, word, from, to}
-    this.boxes = [];   // rectangles over the cells: {top, left, bottom, right, shape}
-    this.places = [];  // where line solving stalls: groups of cells, by their places
-    this.turns = [];   // what can turn: groups of cells, by their places
-    this.framed = [];  // the places of cells that a proposal changes, while it is shown
+    this.dragged = null;  // a line that is dragged: {axis, word, from, to}
+    this.boxes = [];      // rectangles over the cells: {top, left, bottom, right, shape}
+    this.places = [];     // where line solving stalls: groups of cells, by their places
+    this.turns = [];      // what can turn: groups of cells, by their places
+    this.framed = [];     // the places of cells that a proposal changes, while it is shown
     // Places where painting would cost something: to 'breaks' or 'undecided'.
     this.warned = new Map();
     this.symmetry = 'none';  // of the pens, as document/symmetry.js has it
@@ -81,8 +81,8 @@ class Sheet {
       return this.drawAll();
     }
     if (this.geometry.grow()) return this.drawAll();
-    this.cells.changed(this);
-    this.strips.some(
+    this.cells.drawChanged(this);
+    this.strips.drawSome(
         this,
         new Set([...marked.rows, ...state.changed.rows]),
         new Set([...marked.columns, ...state.changed.columns])
@@ -147,18 +147,18 @@ class Sheet {
   }
 
   /** Marks a line that is dragged and the one that it is over; null takes that away. */
-  hold(held) {
+  markDragged(line) {
     const lines = {r: new Set(), c: new Set()};
-    for (const one of [this.held, held])
+    for (const one of [this.dragged, line])
       if (one)
         for (const at of [one.from, one.to]) lines[one.axis].add(at);
-    this.held = held;
-    this.strips.some(this, lines.r, lines.c);
+    this.dragged = line;
+    this.strips.drawSome(this, lines.r, lines.c);
   }
 
   isMarked(axis, at) {
-    const {held, reason} = this;
-    return (held?.axis === axis && (held.from === at || held.to === at)) ||
+    const {dragged, reason} = this;
+    return (dragged?.axis === axis && (dragged.from === at || dragged.to === at)) ||
         (reason?.word === 'by' && reason.axis === axis && reason.at === at + 1);
   }
 
@@ -168,9 +168,9 @@ class Sheet {
     const hadRivals = this.overlay.size === 0 && this.state.verdict.other;
     this.overlay = cells ?? new Map();
     if (hadRivals || (!this.overlay.size && this.state.verdict.other))
-      this.cells.changed(this);
+      this.cells.drawChanged(this);
     else
-      this.cells.some(this, places);
+      this.cells.drawSome(this, places);
     this.underlay?.ask();
   }
 
@@ -250,7 +250,7 @@ class Sheet {
       if (this.wanted.all)
         this.drawAll();
       else {
-        if (this.wanted.cells) this.cells.changed(this);
+        if (this.wanted.cells) this.cells.drawChanged(this);
         this.drawMarks();
       }
       this.wanted = {all: false, cells: false, marks: false};
@@ -272,8 +272,8 @@ class Sheet {
     size(this.rowCanvas, at.originX, at.height);
     size(this.columnCanvas, at.width, at.originY);
     this.look = this.lookNow();
-    this.cells.all(this);
-    this.strips.all(this);
+    this.cells.drawAll(this);
+    this.strips.drawAll(this);
     this.drawMarks();
     tell('moved', at);
   }

@@ -4,7 +4,7 @@ import {make} from '../base/elements.js';
 import {eightBitDoc} from '../document/document.js';
 import {LETTERS} from '../document/limits.js';
 
-/** The pen of a new canvas whose pixels are read back. */
+/** The pen (2D context) of a new canvas whose pixels are read back. */
 export const penOf = (width, height) =>
     Object.assign(
               document.createElement('canvas'), {width, height}

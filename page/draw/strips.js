@@ -21,7 +21,7 @@ export class Strips {
   }
 
   /** Draws all lines that are seen. */
-  all(sheet) {
+  drawAll(sheet) {
     const {geometry: at} = sheet;
     const key =
         [at.cell, at.font, at.pitch, at.letters, at.scale, sheet.doc.maxval, ...sheet.doc.colours]
@@ -63,7 +63,7 @@ export class Strips {
   }
 
   /** Draws some lines again. */
-  some(sheet, rows, columns) {
+  drawSome(sheet, rows, columns) {
     if (!this.key || sheet.geometry.isBare) return;
     const {top, left, bottom, right} = sheet.geometry.seen();
     for (const row of rows)

@@ -1,4 +1,4 @@
-// The document at hand: strokes and questions go to the first worker as lines of a session, one
+// The open document: strokes and questions go to the first worker as lines of a session, one
 // text at a time, and what it answers is all that is shown. Documents are kept beside it, so that a
 // worker that ended is replaced and nothing is lost.
 
@@ -123,7 +123,7 @@ export class Bench {
   stroke(lines, cells = null) {
     const make = typeof lines === 'function' ? lines : () => lines;
     if (this.isIdle && !make(docOf(this.state)).length) return Promise.resolve([]);
-    return this.put({way: 'new', make, cells});
+    return this.put({kind: 'new', make, cells});
   }
 
   /**
@@ -134,24 +134,24 @@ export class Bench {
     const make = typeof doc === 'function' ? doc : () => doc;
     const made = this.isIdle ? make(docOf(this.state)) : null;
     if (this.isIdle && (!made || sameDoc(docOf(made), this.state))) return Promise.resolve([]);
-    return this.put({way: 'become', make, cells});
+    return this.put({kind: 'become', make, cells});
   }
 
   undo() {
     return this.isIdle && !this.past.length ?
         Promise.resolve([{kind: 'refused', name: 'UndoEmpty'}]) :
-        this.put({way: 'undo'});
+        this.put({kind: 'undo'});
   }
 
   redo() {
     return this.isIdle && !this.future.length ?
         Promise.resolve([{kind: 'refused', name: 'RedoEmpty'}]) :
-        this.put({way: 'redo'});
+        this.put({kind: 'redo'});
   }
 
   /** Asks something that changes nothing: a line or several; resolves to the answers. */
   ask(lines) {
-    return this.put({way: 'ask', lines: [lines].flat()});
+    return this.put({kind: 'ask', lines: [lines].flat()});
   }
 
   /** Resolves once all that waits is answered. */
@@ -175,7 +175,7 @@ export class Bench {
     item.done = new Promise((resolve, reject) => Object.assign(item, {resolve, reject}));
     item.done.catch(() => {});
     this.queue.push(item);
-    if (item.way !== 'ask') tell('stroke', item);
+    if (item.kind !== 'ask') tell('stroke', item);
     this.run();
     return item.done;
   }
@@ -227,10 +227,10 @@ export class Bench {
       become: () => this.sendBecome(item),
       undo: () => this.sendTurn(item),
       redo: () => this.sendTurn(item)
-    }[item.way]();
+    }[item.kind]();
     if (this.term !== term) return;
     if (this.queue[0] === item) this.queue.shift();
-    if (item.way !== 'ask') this.show();
+    if (item.kind !== 'ask') this.show();
     item.resolve(answers);
   }
 
@@ -239,8 +239,7 @@ export class Bench {
   }
 
   // Says commands and asks for what is to be shown; nothing is searched.
-  async sent(lines, way = 'new') {
-    tell('sent', {way, lines});
+  async sent(lines) {
     const {term} = this;
     const answers = await this.said([...lines, 'allow 0', 'report', 'verdict']);
     if (this.term !== term)
@@ -304,12 +303,12 @@ export class Bench {
   }
 
   async sendTurn(item) {
-    const isUndo = item.way === 'undo';
+    const isUndo = item.kind === 'undo';
     const stroke = (isUndo ? this.past : this.future).at(-1);
     if (!stroke) return [{kind: 'refused', name: isUndo ? 'UndoEmpty' : 'RedoEmpty'}];
     const doc = {...(isUndo ? stroke.before : stroke.after), about: this.state.about};
     if (stroke.live && stroke.lines.length) {
-      const {report, verdict} = await this.sent(stroke.lines.map(() => item.way), item.way);
+      const {report, verdict} = await this.sent(stroke.lines.map(() => item.kind));
       this.state = stateOf(report, verdict, this.state, pageOf(doc));
     }
     if (!sameBenchPart(doc, this.state) || !stroke.live)

@@ -71,7 +71,7 @@ export class Client {
   hear(data) {
     const item = this.waiting.get(data?.id);
     if (!item) return;
-    if (data.told) return item.told?.(data.told);
+    if (data.report) return item.report?.(data.report);
     this.waiting.delete(data.id);
     if (!data.fault) return item.resolve(data.ok);
     const fault = new EngineFault({kind: String(data.fault.kind), text: String(data.fault.text)});
@@ -79,20 +79,20 @@ export class Client {
     if (fault.kind === 'ended') this.end(fault.text);
   }
 
-  post(call, fields, told = null) {
+  post(call, fields, report = null) {
     if (this.isEnded)
       return Promise.reject(new EngineFault({kind: 'ended', text: 'the worker has ended'}));
     const id = ++this.last;
     return new Promise((resolve, reject) => {
-      this.waiting.set(id, {resolve, reject, told});
+      this.waiting.set(id, {resolve, reject, report});
       this.worker.postMessage({id, call, ...fields});
     });
   }
 
-  /** Calls the worker. `told` hears what a long call finds before its end. */
-  async call(name, fields = {}, told = null) {
+  /** Calls the worker. `report` hears what a long call finds before its end. */
+  async call(name, fields = {}, report = null) {
     await this.ready;
-    return this.post(name, fields, told);
+    return this.post(name, fields, report);
   }
 
   open(file, options) {

@@ -65,8 +65,11 @@ export class Judge {
   }
 }
 
-const isBetter = (one, other) => !other || one.cells.length < other.cells.length ||
-    (one.cells.length === other.cells.length && one.pain < other.pain);
+// Of repairs of one size and pain that one counts whose places and colours come first.
+const ranksOf =
+    ({cells, pain}) => [cells.length, pain, ...cells.map(({index, colour}) => index * 16 + colour)];
+const isBetter = (one, other) =>
+    !other || ranksOf(one).map((rank, at) => rank - ranksOf(other)[at]).find(Boolean) < 0;
 
 /** Repairs documents, each search within some seconds. */
 export class Mender {

@@ -28,10 +28,10 @@ const letterAt = ({picture, columns}, place) =>
     picture[Math.floor(place / columns)][place % columns];
 
 /**
- * Asks about places, each painted alone in a colour: `told` hears them in parts, as a Map of a
+ * Asks about places, each painted alone in a colour: `take` gets them in parts, as a Map of a
  * place to 'safe', 'breaks' or 'undecided'. `copy.say` answers lines on the document of `state`.
  */
-export async function askMarks(copy, state, {places, letter, goal}, told) {
+export async function askMarks(copy, state, {places, letter, goal}, take) {
   const others = places.filter((place) => letterAt(state, place) !== letter);
   for (let from = 0; from < others.length; from += BATCH) {
     const some = others.slice(from, from + BATCH);
@@ -40,7 +40,7 @@ export async function askMarks(copy, state, {places, letter, goal}, told) {
       return [`paint ${text} ${letter}`, 'verdict', `paint ${text} ${letterAt(state, place)}`];
     });
     const answers = await copy.say(`allow ${ALLOWED[goal]}`, ...lines);
-    told(new Map(some.map((place, at) => [place, markOf(answers[at * 3 + 2], goal)])));
+    take(new Map(some.map((place, at) => [place, markOf(answers[at * 3 + 2], goal)])));
   }
 }
 

@@ -43,7 +43,7 @@ class Copy {
 
   /** The answers to lines. */
   async say(...lines) {
-    const text = await this.searches.within(this.run, this.run.engine.say(lines));
+    const text = await this.searches.unlessCut(this.run, this.run.engine.say(lines));
     const answers = answersTo(lines, text, this.run.state);
     if (answers.some((answer) => answer.name === 'Memory')) throw new Error('memory ran out');
     return answers;
@@ -61,12 +61,12 @@ class Copy {
   }
 
   /**
-   * A long call of the worker on the copy: `told` hears what it finds. From there on the copy is
+   * A long call of the worker on the copy: `report` hears what it finds. From there on the copy is
    * another picture.
    */
-  async work(name, fields, told) {
+  async work(name, fields, report) {
     this.changes();
-    return this.searches.within(this.run, this.run.engine.call(name, fields, told));
+    return this.searches.unlessCut(this.run, this.run.engine.call(name, fields, report));
   }
 
   /** Tells how far the search is. */
@@ -78,7 +78,7 @@ class Copy {
 
 export class Searches {
   /**
-   * `hooks.start` starts an engine, `hooks.told` is called with what runs ({ name, elapsed,
+   * `hooks.start` starts an engine, `hooks.progress` is called with what runs ({ name, elapsed,
    * seconds, note }) each quarter of a second and with null when nothing does, `hooks.judged` with
    * the verdict found of the present document, `hooks.ended` with name and reason where a search
    * came to no end, `hooks.failed` with a fault. `hooks.seconds` is the time chosen.
@@ -138,7 +138,7 @@ export class Searches {
     return this.job(phrase('engine.searchingCertificate'), seconds, async (copy, run) => {
       const [{text}] = await copy.say('write ppm');
       const {colours, columns, givens} = run.state;
-      const {certificate} = await this.within(run, run.engine.call('prove', {
+      const {certificate} = await this.unlessCut(run, run.engine.call('prove', {
         picture: text,
         background: colours[0].join(','),
         published:
@@ -161,7 +161,7 @@ export class Searches {
     const {state} = this;
     if (state.open > 0 || state.givens.size > 0)
       return this.job(
-          '', seconds, (_copy, run) => this.within(run, assessed(run.engine, run.state))
+          '', seconds, (_copy, run) => this.unlessCut(run, assessed(run.engine, run.state))
       );
     this.engine ??= this.hooks.start();
     return assessed(this.engine, state).catch(() => null);
@@ -206,7 +206,7 @@ export class Searches {
       clearInterval(run.clock);
       if (this.running === run) {
         this.running = null;
-        if (run.name) this.hooks.told(null);
+        if (run.name) this.hooks.progress(null);
       }
     }
   }
@@ -219,14 +219,15 @@ export class Searches {
     if (this.opened === run.version) return copy;
     this.opened = -1;
     const {text, background, lines} = baseOf(docOf(run.state));
-    await this.within(run, run.engine.open(text, {background}));
+    await this.unlessCut(run, run.engine.open(text, {background}));
     const answers = lines.length ? await copy.say(...lines) : [];
     if (answers.some((answer) => answer.kind !== 'ok')) throw new Error('the copy is not the same');
     this.opened = run.version;
     return copy;
   }
 
-  within(run, promise) {
+  // What a promise gives. Throws if the run is cut short before.
+  unlessCut(run, promise) {
     promise.catch(() => {});
     return Promise.race([promise, run.cut]);
   }
@@ -237,7 +238,7 @@ export class Searches {
     if (elapsed >= run.seconds)
       this.end('time');
     else if (run.name)
-      this.hooks.told({name: run.name, elapsed, seconds: run.seconds, note: run.note});
+      this.hooks.progress({name: run.name, elapsed, seconds: run.seconds, note: run.note});
   }
 
   // Ends what runs together with its worker.
@@ -249,7 +250,7 @@ export class Searches {
     this.discard(run);
     run.reject(new Ended(why));
     if (!run.name) return;
-    this.hooks.told(null);
+    this.hooks.progress(null);
     this.hooks.ended(run.name, why, run);
   }
 

@@ -144,7 +144,7 @@ function animated(puzzle, walk) {
   return film.bytes;
 }
 
-/** Saves the solving path of the picture at hand. */
+/** Saves the solving path of the open picture. */
 export const exportPath = () => asSeen(async (seen) => {
   const {state, name} = seen;
   if (state.verdict.word !== 'unique') return say(phrase('export.pathNeedsOne'), 'alarm');

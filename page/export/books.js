@@ -4,14 +4,14 @@
 import {buttonOf, fieldOf, make, say} from '../base/elements.js';
 import {on} from '../base/events.js';
 import {clamp, cleanName, opening} from '../base/words.js';
-import {runsOf} from '../document/document.js';
+import {runsOf, sameDoc} from '../document/document.js';
 import {iconOf} from '../draw/icons.js';
 import {Judge, Mender} from '../engine/judging.js';
 import {allRecords, saveArchive} from '../import/archives.js';
 import {grouped, puzzlesIn} from '../import/beside.js';
 import {TAKEN_KINDS, imageDocs} from '../import/taking.js';
 import {keep} from '../library/keep.js';
-import {withClues} from '../library/open.js';
+import {faultText, withClues} from '../library/open.js';
 import {phrase} from '../texts/phrase.js';
 import {addAction} from '../view/actions.js';
 import {openDialog} from '../view/dialogs.js';
@@ -20,7 +20,16 @@ import {Progress, withProgress} from '../view/progress.js';
 import {coverSheet} from './cover.js';
 import {inOrder} from './entries.js';
 import {Page} from './pages.js';
-import {drawingOf, fillPrint, makersFor, printFields, printedOf, readFields, saveSvg, sheetsInTurn} from './printing.js';
+import {
+  drawingOf,
+  fillPrint,
+  makersFor,
+  printFields,
+  printedOf,
+  readFields,
+  saveSvg,
+  sheetsInTurn
+} from './printing.js';
 import {authorFor, keepAuthor} from './publishing.js';
 import {MOST_SHEETS} from './sheets.js';
 
@@ -29,8 +38,11 @@ const MEND_SECONDS = 3;   // for a search of repairs
 const REST = 200;         // milliseconds without a change until the preview is drawn
 
 class Book {
-  constructor() {
+  /** `isOfFiles` tells that its puzzles come from a table of files, not from the library. */
+  constructor(isOfFiles) {
+    this.isOfFiles = isOfFiles;
     this.pages = [];
+    this.unread = 0;          // files that no puzzle is read from
     this.ticked = new Set();  // pages that are in, in the order in which they came in
     /** @type {any} */
     this.work = null;  // what can be stopped
@@ -68,13 +80,15 @@ class Book {
   sources() {
     this.stop = buttonOf('book-stop', phrase('view.stop'), () => this.end());
     this.repair = buttonOf('book-repair', phrase('import.repairAll'), () => this.repairAll());
+    const empty = buttonOf('book-empty', phrase('export.emptyList'), () => this.empty());
     return make(
         'div',
         {class: 'ground'},
         buttonOf('book-files', phrase('export.addFiles'), () => this.choose(false)),
         buttonOf('book-folder', phrase('export.addFolder'), () => this.choose(true)),
         this.repair,
-        this.stop
+        this.stop,
+        empty
     );
   }
 
@@ -100,13 +114,48 @@ class Book {
 
   // ---- what is in it
 
-  /** Adds puzzles, each `{name, doc}`, and has the engine judge them. */
-  add(puzzles) {
-    const pages = puzzles.map(({name, doc}) => new Page(name, doc));
+  /**
+   * Adds puzzles, each `{name, doc}`, and has the engine judge them; what is no puzzle, `{name,
+   * fault}`, is listed with the reason. A picture of the library, which has an `id`, takes the
+   * place of what it was before.
+   */
+  add(all) {
+    const puzzles = all.filter((one) => one.doc && !this.has(one));
+    const changed = new Set(puzzles.map(({id}) => id).filter(Boolean));
+    for (const page of this.pages.filter(({id}) => changed.has(id))) this.drop(page);
+    const pages = puzzles.map(({name, doc, id = null}) => new Page(name, doc, id));
+    const unread = all.filter(({doc}) => !doc)
+                       .map(
+                           ({name, fault}) => make(
+                               'p',
+                               {class: 'unread wrong', 'data-name': name},
+                               make('b', {}, name),
+                               ` ${fault}`
+                           )
+                       );
     this.pages.push(...pages);
-    this.list.append(...pages.map(({label}) => label));
+    this.unread += unread.length;
+    this.list.append(...pages.map(({label}) => label), ...unread);
     this.list.setAttribute('aria-label', phrase('import.puzzles', {puzzles: this.pages.length}));
     return this.judgeAll();
+  }
+
+  has({name, doc}) {
+    return this.pages.some((page) => page.name === name && sameDoc(page.source, doc));
+  }
+
+  drop(page) {
+    page.label.remove();
+    this.ticked.delete(page);
+    this.pages.splice(this.pages.indexOf(page), 1);
+  }
+
+  empty() {
+    this.pages = [];
+    this.unread = 0;
+    this.ticked.clear();
+    this.list.replaceChildren();
+    this.end();
   }
 
   // Lets the user choose files, or all of a folder.
@@ -130,15 +179,10 @@ class Book {
     const units = [...folders.values()].flatMap((all) => grouped(all));
     const progress = new Progress(phrase('import.files', {files: units.length}));
     const puzzles = [];
-    let unread = 0;
-    for await (const one of puzzlesIn(units, progress, imageDocs))
-      if (one.doc)
-        puzzles.push(one);
-      else
-        unread++;
+    for await (const {name, doc, fault} of puzzlesIn(units, progress, imageDocs))
+      puzzles.push({name, doc, fault: fault && faultText(fault)});
     progress.end();
     await this.add(puzzles);
-    if (unread) this.notes.textContent = phrase('import.filesNotRead', {files: unread});
   }
 
   // Takes over which boxes are ticked.
@@ -246,6 +290,12 @@ class Book {
     return sheets > MOST_SHEETS ? phrase('export.mostSheets', {sheets, most: MOST_SHEETS}) : '';
   }
 
+  // How many pictures are not in it, in words; '' where all are.
+  leftOut() {
+    const left = this.pages.length - this.ticked.size;
+    return left ? phrase('export.bookLeavesOut', {left}) : '';
+  }
+
   later() {
     clearTimeout(this.timer);
     this.timer = setTimeout(() => this.draw(), REST);
@@ -267,13 +317,16 @@ class Book {
         makers.length ? phrase('import.ofAll', {count: this.at + 1, all: makers.length}) : '';
     this.notes.textContent = puzzles.length ? this.wrong() : '';
     if (!this.work)
-      this.status.textContent = phrase(
-          'export.bookHolds',
-          {puzzles: puzzles.length, sheets: makers.length, left: this.pages.length - puzzles.length}
-      );
+      this.status.textContent = [
+        phrase(
+            'export.bookHolds',
+            {puzzles: puzzles.length, sheets: makers.length, out: this.leftOut()}
+        ),
+        this.unread ? `${phrase('import.filesNotRead', {files: this.unread})}.` : ''
+      ].join(' ').trim();
   }
 
-  /** Prints the book, or hands it to the user as files. */
+  /** Prints the book, or gives it to the user as files. */
   async finish(way) {
     const [{puzzles, options, texts}, hasCover] = [this, this.cover.checked];
     keepAuthor(texts.author);
@@ -296,9 +349,14 @@ class Book {
   }
 }
 
-// Opens the dialog on puzzles, of the library where none are given.
+/** @type {Book | null} */
+let made = null;  // the book as it was left, until its list is emptied
+
+// Opens the dialog on the book as it was left, with puzzles that are added; without any it begins
+// with the library.
 const openBook = (puzzles = null) => keep.tried(async () => {
-  const book = new Book();
+  if (!made?.pages.length || (puzzles && !made.isOfFiles)) made = new Book(puzzles !== null);
+  const book = made;
   const test = () => book.wrong();
   const done = openDialog({
     title: phrase('export.makeBook'),
@@ -310,7 +368,7 @@ const openBook = (puzzles = null) => keep.tried(async () => {
       {name: opening(phrase('export.print')), value: 'print', main: true, test}
     ]
   });
-  book.add(puzzles ?? (await allRecords()).filter(Boolean));
+  if (puzzles || !book.isOfFiles) book.add(puzzles ?? (await allRecords()).filter(Boolean));
   const way = await done;
   book.end();
   clearTimeout(book.timer);

@@ -1,6 +1,6 @@
 // What sheets say of a puzzle: its clues, title, facts, and the names of its colours.
 
-import {gradeName, gradePlace} from '../base/names.js';
+import {gradeName, gradeRank} from '../base/names.js';
 import {sizeText} from '../base/words.js';
 import {plainHexOf} from '../document/colours.js';
 import {eightBitDoc} from '../document/document.js';
@@ -19,7 +19,7 @@ const ORDERS = {
 
 // What has no grade that is known comes last.
 function placeOfGrade({grade}) {
-  const at = gradePlace(grade);
+  const at = gradeRank(grade);
   return at < 0 ? Infinity : at;
 }
 

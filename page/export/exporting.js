@@ -18,7 +18,7 @@ import {phrase} from '../texts/phrase.js';
 import {addAction} from '../view/actions.js';
 import {openDialog} from '../view/dialogs.js';
 import {nearText, unfitText} from '../view/dress.js';
-import {gradeAtHand} from '../view/grading.js';
+import {presentGrade} from '../view/grading.js';
 import {asSeen, heard, whileOpen} from '../view/tools.js';
 import {certificateText, secondsChosen} from '../view/verdict.js';
 import {exportPath} from './animation.js';
@@ -112,6 +112,48 @@ const withGrade =
      {word}) => [...text.split('\n').filter((line) => line && !isGradeLine(line)), gradeLine(word)]
                     .join('\n');
 
+// The fields for the texts about the puzzle, by name.
+function aboutFields(shown) {
+  const field = (name) =>
+      (LONG_FIELDS.includes(name) ?
+           make('textarea', {rows: 3, maxlength: '5000'}, shown[name] ?? '') :
+           make('input', {type: 'text', value: shown[name] ?? '', maxlength: '500'}));
+  return Object.fromEntries(Object.keys(ABOUT_FIELDS).map((name) => [name, field(name)]));
+}
+
+// The field for the puzzle's name: it follows the title, until the user chooses another one.
+function nameField(title) {
+  const field = make('input', {type: 'text', value: bench.name, maxlength: '80'});
+  let isOwn = keep.isNamed;
+  field.addEventListener('input', () => {
+    isOwn = true;
+  });
+  title.addEventListener('input', () => {
+    if (!isOwn) field.value = title.value.trim() ? cleanName(title.value) : bench.name;
+  });
+  return {field, isOwn: () => isOwn};
+}
+
+function gradeButton(grade, description) {
+  const add = () => {
+    description.value = withGrade(description.value, grade);
+  };
+  const text = phrase('export.putGradeIntoDescription');
+  return make('button', {type: 'button', id: 'about-grade', onclick: add}, text);
+}
+
+// Gives the puzzle these texts, and its name.
+async function takeAbout(texts, name, isOwn) {
+  if (name !== bench.name) saving.handle = null;
+  bench.name = name;
+  keep.isNamed = isOwn;
+  const others = ({about}) =>
+      Object.fromEntries(Object.entries(about).filter(([one]) => !(one in ABOUT_FIELDS)));
+  await heard(bench.become((doc) => ({...doc, about: {...others(doc), ...texts}})));
+  keep.now();
+  showFileName();
+}
+
 /**
  * Asks for the texts about the puzzle, which go into its files and on the printed sheet, and for
  * its name: the title, unless the user chose another one.
@@ -119,56 +161,24 @@ const withGrade =
 async function askAbout() {
   const {about} = bench.state;
   const shown = {...about, author: authorFor(about)};
-  const field = (name) =>
-      (LONG_FIELDS.includes(name) ?
-           make('textarea', {rows: 3, maxlength: '5000'}, shown[name] ?? '') :
-           make('input', {type: 'text', value: shown[name] ?? '', maxlength: '500'}));
-  const fields = Object.fromEntries(Object.keys(ABOUT_FIELDS).map((name) => [name, field(name)]));
-  const {title, description} = fields;
-  const file = make('input', {type: 'text', value: bench.name, maxlength: '80'});
-  let isOwn = keep.isNamed;
-  file.addEventListener('input', () => {
-    isOwn = true;
-  });
-  title.addEventListener('input', () => {
-    if (!isOwn) file.value = title.value.trim() ? cleanName(title.value) : bench.name;
-  });
-  const grade = gradeAtHand();
-  const addGrade = () => {
-    description.value = withGrade(description.value, grade);
-  };
+  const fields = aboutFields(shown);
+  const name = nameField(fields.title);
+  const grade = presentGrade();
   const content = make(
       'div',
       {class: 'rows'},
-      ...Object.entries(fields).map(([name, input]) => fieldOf(ABOUT_FIELDS[name], input)),
-      fieldOf(phrase('export.nameFile'), file)
+      ...Object.entries(fields).map(([one, input]) => fieldOf(ABOUT_FIELDS[one], input)),
+      fieldOf(phrase('export.nameFile'), name.field),
+      ...(grade ? [gradeButton(grade, fields.description)] : [])
   );
-  if (grade)
-    content.append(make(
-        'button',
-        {type: 'button', id: 'about-grade', onclick: addGrade},
-        phrase('export.putGradeIntoDescription')
-    ));
-  if (!(await whileOpen(openDialog({
-        title: phrase('export.aboutPuzzle'),
-        content,
-        buttons: [{name: 'OK', value: true, main: true}]
-      }))))
-    return;
-  const texts =
-      Object.fromEntries(Object.entries(fields).map(
-                                                   ([name, input]) => [name, input.value.trim()]
-      ).filter(([, text]) => text));
+  const title = phrase('export.aboutPuzzle');
+  const buttons = [{name: 'OK', value: true, main: true}];
+  if (!(await whileOpen(openDialog({title, content, buttons})))) return;
+  const typed = Object.entries(fields).map(([one, input]) => [one, input.value.trim()]);
+  const texts = Object.fromEntries(typed.filter(([, text]) => text));
   if ((texts.author ?? '') !== shown.author) keepAuthor(texts.author ?? '');
-  const without = (doc) =>
-      Object.fromEntries(Object.entries(doc.about).filter(([name]) => !(name in ABOUT_FIELDS)));
-  const name = isOwn ? bareName(file.value) : cleanName(file.value);
-  if (name !== bench.name) saving.handle = null;
-  bench.name = name;
-  keep.isNamed = isOwn;
-  await heard(bench.become((doc) => ({...doc, about: {...without(doc), ...texts}})));
-  keep.now();
-  showFileName();
+  const {value} = name.field;
+  await takeAbout(texts, name.isOwn() ? bareName(value) : cleanName(value), name.isOwn());
 }
 
 /** What the menu File exports: first for whom it is, then as what. */

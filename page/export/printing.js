@@ -1,4 +1,4 @@
-// Print for books: the picture at hand, and on wish others of the library, as sheets, for the
+// Print for books: the open picture, and on wish others of the library, as sheets, for the
 // browser's print or as SVG.
 
 import {$, choiceOf, fieldOf, make, say} from '../base/elements.js';
@@ -16,7 +16,7 @@ import {phrase} from '../texts/phrase.js';
 import {addAction} from '../view/actions.js';
 import {openDialog} from '../view/dialogs.js';
 import {nearText, pairText} from '../view/dress.js';
-import {gradeAtHand} from '../view/grading.js';
+import {presentGrade} from '../view/grading.js';
 import {eachInTurn, withProgress} from '../view/progress.js';
 import {asSeen} from '../view/tools.js';
 import {SHEET_TEXTS, entryOf, inOrder} from './entries.js';
@@ -71,7 +71,7 @@ export const puzzleOf = ({state, name}) => ({
   doc: docOf(state),
   clues: state.clues,
   name,
-  grade: gradeAtHand()?.word ?? null,
+  grade: presentGrade()?.word ?? null,
   verdict: state.verdict.word
 });
 
@@ -326,83 +326,138 @@ async function openedOf(cards, {show}, progress) {
   return withClues(records, undefined, progress);
 }
 
+/**
+ * The dialog that asks how a puzzle, and others of the library with it, are printed. Its preview
+ * and its notes follow each choice.
+ */
+class PrintDialog {
+  preview = make('figure', {class: 'preview', 'aria-hidden': 'true'});
+  notes = make('div', {id: 'print-notes', role: 'status'});
+  svgName = make('span');
+  tooMany = '';  // that these are more sheets than can be printed
+  choices = 0;   // how many there were: what is drawn for an earlier one is dropped
+
+  constructor(own, near, cards) {
+    const {fields, rows} = printFields(own, near);
+    this.own = own;
+    this.fields = fields;
+    this.rows = rows;
+    this.others = libraryPart(cards);
+    for (const field of [fields.head, fields.order])
+      field.closest('label').hidden = cards.length === 0;
+  }
+
+  /** The puzzle with the title that was typed. */
+  get titled() {
+    const {own, fields} = this;
+    return {...own, doc: {...own.doc, about: {...own.doc.about, title: fields.title.value.trim()}}};
+  }
+
+  /** The cards of the other pictures to be printed. */
+  get cards() {
+    return this.others.chosen();
+  }
+
+  /** What is chosen. Where one puzzle is printed, its title decides what stands above it. */
+  get options() {
+    const options = readFields(this.fields);
+    if (this.cards.length) return options;
+    return {...options, head: headAlone(this.fields.title.value.trim())};
+  }
+
+  /** 'svg' or 'print', or a false value if the dialog is closed. */
+  async ask() {
+    await this.update();
+    const test = () => this.tooMany;
+    const answer = await openDialog({
+      title: phrase('export.print'),
+      content: this.content(),
+      wide: true,
+      buttons: [
+        {name: this.svgName, value: 'svg', test},
+        {name: opening(phrase('export.print')), value: 'print', main: true, test}
+      ]
+    });
+    this.choices++;
+    return answer;
+  }
+
+  content() {
+    return make(
+        'div',
+        {class: 'publishing', onchange: () => this.update()},
+        this.preview,
+        make('div', {}, make('div', {class: 'rows'}, ...this.rows, this.others.part), this.notes)
+    );
+  }
+
+  // Follows a choice: how many sheets there are, the first of them, and what is to be known.
+  async update() {
+    const choice = ++this.choices;
+    const {options, cards} = this;
+    this.count(options, cards);
+    if (this.tooMany) return this.notes.replaceChildren(make('p', {class: 'wrong'}, this.tooMany));
+    const puzzles = await foreseen(this.titled, cards, options.order);
+    const sheets = await sheetsInTurn(puzzles, options, this.progressOf(choice), this.showFirst());
+    if (sheets) this.notes.replaceChildren(...notesOn(puzzles, sheets, options));
+  }
+
+  // Counts the sheets of a choice, and says whether they can be printed, and how they are saved.
+  count(options, cards) {
+    const sheets = makersOf(inOrder([this.own, ...cards], options.order), options).length;
+    this.tooMany =
+        sheets > MOST_SHEETS ? phrase('export.mostSheets', {sheets, most: MOST_SHEETS}) : '';
+    this.svgName.textContent =
+        sheets > 1 || cards.length ? phrase('export.saveSvgs') : phrase('export.saveSvg');
+  }
+
+  // The progress of what is drawn for a choice: it goes on until there is a later one.
+  progressOf(choice) {
+    const goesOn = async () => {
+      await new Promise((go) => setTimeout(go));
+      return choice === this.choices;
+    };
+    return {goesOn};
+  }
+
+  // Takes sheets, of which the first is the preview, and leaves of each the size of its cells.
+  showFirst() {
+    let isFirst = true;
+    return ({cell, svg}) => {
+      if (isFirst) this.preview.replaceChildren(drawingOf(svg));
+      isFirst = false;
+      return {cell};
+    };
+  }
+}
+
+// Notes what was chosen for the next time. What was only proposed is not chosen.
+function remember(fields, isProposed) {
+  const {show} = chosen;
+  Object.assign(chosen, readFields(fields), isProposed && {show});
+}
+
+// The sheets of a puzzle and of those of some cards, as `take` has them; null where that is
+// stopped.
+const sheetsOf = (own, cards, options, take) =>
+    withProgress(phrase('export.print'), async (progress) => {
+      const opened = await openedOf(cards, options, progress);
+      if (!opened) return null;
+      return sheetsInTurn(inOrder([own, ...opened], options.order), options, progress, take);
+    });
+
 const printPuzzle = () => asSeen(async (seen) => {
   const own = puzzleOf(seen);
   const near = nearText(own.doc);
-  const {fields, rows} = printFields(own, near);
-  const others = libraryPart(await otherCards());
-  const notes = make('div', {id: 'print-notes', role: 'status'});
-  const preview = make('figure', {class: 'preview', 'aria-hidden': 'true'});
-  const svgName = make('span');
-  const titled = () =>
-      ({...own, doc: {...own.doc, about: {...own.doc.about, title: fields.title.value.trim()}}});
-  // Where there are no others, nothing is chosen of several.
-  for (const field of [fields.head, fields.order])
-    field.closest('label').hidden = others.part === '';
-  const wished = () => {
-    const options = readFields(fields);
-    return others.chosen().length ? options :
-                                    {...options, head: headAlone(fields.title.value.trim())};
-  };
-  let [turn, tooMany] = [0, ''];
-  const showNotes = async () => {
-    const [ownTurn, options, cards] = [++turn, wished(), others.chosen()];
-    const count = makersOf(inOrder([own, ...cards], options.order), options).length;
-    tooMany =
-        count > MOST_SHEETS ? phrase('export.mostSheets', {sheets: count, most: MOST_SHEETS}) : '';
-    svgName.textContent =
-        count > 1 || cards.length ? phrase('export.saveSvgs') : phrase('export.saveSvg');
-    if (tooMany) return notes.replaceChildren(make('p', {class: 'wrong'}, tooMany));
-    const puzzles = await foreseen(titled(), cards, options.order);
-    const goesOn = async () => {
-      await new Promise((go) => setTimeout(go));
-      return ownTurn === turn;
-    };
-    let isFirst = true;
-    const sheets = await sheetsInTurn(puzzles, options, {goesOn}, ({cell, svg}) => {
-      if (isFirst) preview.replaceChildren(drawingOf(svg));
-      isFirst = false;
-      return {cell};
-    });
-    if (sheets) notes.replaceChildren(...notesOn(puzzles, sheets, options));
-  };
-  const content = make(
-      'div',
-      {class: 'publishing', onchange: showNotes},
-      preview,
-      make('div', {}, make('div', {class: 'rows'}, ...rows, others.part), notes)
-  );
-  await showNotes();
-  const way = await openDialog({
-    title: phrase('export.print'),
-    content,
-    wide: true,
-    buttons: [
-      {name: svgName, value: 'svg', test: () => tooMany},
-      {name: opening(phrase('export.print')), value: 'print', main: true, test: () => tooMany}
-    ]
-  });
-  turn++;
-  if (!way) return;
-  const options = wished();
-  Object.assign(
-      chosen,
-      readFields(fields),
-      (bench.term !== seen.term || options.show === shownFirst(near)) && {show: chosen.show}
-  );  // what was only proposed is not chosen
-  const sheets = await withProgress(phrase('export.print'), async (progress) => {
-    const opened = await openedOf(others.chosen(), options, progress);
-    return opened &&
-        sheetsInTurn(
-               inOrder([titled(), ...opened], options.order),
-               options,
-               progress,
-               way === 'print' ? printedOf : undefined
-        );
-  });
+  const dialog = new PrintDialog(own, near, await otherCards());
+  const answer = await dialog.ask();
+  if (!answer) return;
+  const {titled, cards, options} = dialog;
+  remember(dialog.fields, bench.term !== seen.term || options.show === shownFirst(near));
+  const take = answer === 'print' ? printedOf : undefined;
+  const sheets = await sheetsOf(titled, cards, options, take);
   if (!sheets) return;
-  if (way === 'svg')
-    return saveSvg(own.name, sheets, sheets.length > 1 || others.chosen().length > 0);
+  if (answer === 'svg') return saveSvg(own.name, sheets, sheets.length > 1 || cards.length > 0);
   fillPrint(sheets);
   globalThis.print();
 });

@@ -1,4 +1,4 @@
-// Publish: one dialog for all ways out. It shows the puzzle as a sheet, asks for title and author
+// Publish: one dialog for all exports. It shows the puzzle as a sheet, asks for title and author
 // once, and leads to files, paper, a link and images.
 
 import {fieldOf, make} from '../base/elements.js';
@@ -15,8 +15,8 @@ const AUTHOR = 'nonobench-author';  // as it was typed last
 const TEXTS = ['title', 'author', 'copyright', 'description', 'note'];
 const REST = 200;  // milliseconds between a key and the sheet with what was typed
 
-// The ways out by what they are for, with an icon each; the first one is the main one.
-const WAYS = [
+// The exports by what they are for, with an icon each.
+const EXPORTS = [
   [
     phrase('export.forSites'),
     ['export-xml', 'save'],
@@ -31,7 +31,7 @@ const WAYS = [
     ['export-path', 'walk']
   ]
 ];
-const MAIN_WAY = 'export-xml';
+const MAIN_EXPORT = 'export-xml';
 
 /** The author that is proposed: that of the last time, for a puzzle that has no texts yet. */
 export const authorFor = (about) =>
@@ -62,64 +62,64 @@ async function take({title, author}) {
   await heard(bench.become((doc) => ({...doc, about: texts(doc.about)})));
 }
 
+// A button of the dialog that leads to an export, or to what mends the puzzle.
+const buttonTo = (id, {isMain, choose}, ...parts) => make(
+    'button',
+    {
+      type: 'button',
+      class: isMain ? 'main' : null,
+      'data-export': id,
+      title: actions.get(id).hint,
+      onclick: (event) => {
+        choose(id);
+        event.target.closest('dialog').close();
+      }
+    },
+    ...parts,
+    make('span', {}, actions.get(id).name)
+);
+
+// All exports, each group below its name.
+const exportsBy = (button) => EXPORTS.flatMap(
+    ([head, ...exports]
+    ) => [make('h3', {}, head), ...exports.map(([id, icon]) => button(id, iconOf(icon)))]
+);
+
 const publish = () => asSeen(async (seen) => {
   const own = puzzleOf(seen);
-  const {rows, texts} = textFields(own.doc.about);
-  const preview = make('figure', {class: 'preview', 'aria-hidden': 'true'});
   const isAmbiguous = own.verdict === 'ambiguous';
-  const draw = () => preview.replaceChildren(
-      firstSheet({...own, doc: {...own.doc, about: {...own.doc.about, ...texts()}}})
-  );
-  let [way, timer] = [null, 0];
-  const button = (id, ...parts) => make(
-      'button',
-      {
-        type: 'button',
-        class: id === (isAmbiguous ? 'fix' : MAIN_WAY) ? 'main' : null,
-        'data-way': id,
-        title: actions.get(id).hint,
-        onclick: (event) => {
-          way = id;
-          event.target.closest('dialog').close();
-        }
-      },
-      ...parts,
-      make('span', {}, actions.get(id).name)
-  );
-  const group = ([head, ...ways]
-  ) => [make('h3', {}, head), ...ways.map(([id, icon]) => button(id, iconOf(icon)))];
-  const notes = make(
-      'div',
-      {id: 'publish-notes', role: 'status', class: 'rows'},
-      ...notesOfPuzzle(own),
-      ...(isAmbiguous ? [button('fix')] : [])
-  );
-  const later = () => {
+  const {rows, texts} = textFields(own.doc.about);
+  const sheetNow = () =>
+      firstSheet({...own, doc: {...own.doc, about: {...own.doc.about, ...texts()}}});
+  const preview = make('figure', {class: 'preview', 'aria-hidden': 'true'}, sheetNow());
+  let [chosen, timer] = [null, 0];
+  const drawLater = () => {
     clearTimeout(timer);
-    timer = setTimeout(draw, REST);
+    timer = setTimeout(() => preview.replaceChildren(sheetNow()), REST);
   };
-  draw();
+  const choose = (id) => {
+    chosen = id;
+  };
+  const main = isAmbiguous ? 'fix' : MAIN_EXPORT;
+  const button = (id, ...parts) => buttonTo(id, {isMain: id === main, choose}, ...parts);
+  const notes = [...notesOfPuzzle(own), ...(isAmbiguous ? [button('fix')] : [])];
+  const side = make(
+      'div',
+      {class: 'rows'},
+      make('div', {id: 'publish-notes', role: 'status', class: 'rows'}, ...notes),
+      ...rows,
+      make('div', {class: 'exports'}, ...exportsBy(button))
+  );
   const done = await openDialog({
     title: phrase('export.publish'),
     wide: true,
-    content: make(
-        'div',
-        {class: 'publishing', oninput: later},
-        preview,
-        make(
-            'div',
-            {class: 'rows'},
-            notes,
-            ...rows,
-            make('div', {class: 'ways'}, ...WAYS.flatMap(group))
-        )
-    ),
+    content: make('div', {class: 'publishing', oninput: drawLater}, preview, side),
     buttons: [{name: phrase('export.done'), value: true, main: true, isPlain: true}]
   });
   clearTimeout(timer);
-  if (!done && !way) return;
+  if (!done && !chosen) return;
   await take(texts());
-  if (way) runAction(way);
+  if (chosen) runAction(chosen);
 });
 
 /** Adds Publish to the menu File. */

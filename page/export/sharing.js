@@ -1,4 +1,4 @@
-// Links: the puzzle at hand in an address, to be solved or to be changed. Nothing is sent anywhere.
+// Links: the open puzzle in an address, to be solved or to be changed. Nothing is sent anywhere.
 
 import {choiceOf, fieldOf, make, say} from '../base/elements.js';
 import {docOf, unlocked} from '../document/document.js';

@@ -23,7 +23,7 @@ export const GRIDS = {
   6: [2, 3]
 };
 /** From more rows or columns on a puzzle goes over several sheets. */
-export const MOST_LINES = 60;
+const MOST_LINES = 60;
 /** How many sheets are printed, or saved, at once. */
 export const MOST_SHEETS = 300;
 
@@ -36,20 +36,20 @@ const FAINT = '#555';
 
 // ---- texts
 
-/** A text in lines that are no wider than a room; what the last has no room for is left out. */
+/** A text in lines of at most a width; what does not fit into the last one is left out. */
 export function linesOf(text, {width, size, most = 3}) {
-  const room = Math.max(4, Math.floor(width / (size * DIGIT)));
+  const letters = Math.max(4, Math.floor(width / (size * DIGIT)));
   const lines = [''];
   for (const word of text.split(/\s+/).filter(Boolean)) {
     const longer = lines.at(-1) ? `${lines.at(-1)} ${word}` : word;
-    if (longer.length <= room)
+    if (longer.length <= letters)
       lines[lines.length - 1] = longer;
     else if (lines.at(-1))
       lines.push(word);
     else
       lines[lines.length - 1] = word;
   }
-  const cut = (line) => (line.length > room ? `${line.slice(0, room - 1)}…` : line);
+  const cut = (line) => (line.length > letters ? `${line.slice(0, letters - 1)}…` : line);
   return lines.length > most ? [...lines.slice(0, most - 1).map(cut), cut(`${lines[most - 1]} …`)] :
                                lines.filter(Boolean).map(cut);
 }
@@ -66,20 +66,20 @@ function write(surface, lines, {x, y, size, ink = PAPER_INK, weight = 400}) {
   return at;
 }
 
-// ---- a puzzle in its room
+// ---- a puzzle in its box
 
 // The names of colours below a puzzle: rows of items that fit. An item is {text, fill, sign}.
 function legendRows(items, width, size) {
   const rows = [[]];
   let used = 0;
   for (const item of items) {
-    const room = (item.text.length * DIGIT + (item.sign ? 4.1 : 3)) * size;
-    if (used + room > width && rows.at(-1).length) {
+    const length = (item.text.length * DIGIT + (item.sign ? 4.1 : 3)) * size;
+    if (used + length > width && rows.at(-1).length) {
       rows.push([]);
       used = 0;
     }
     rows.at(-1).push({...item, x: used});
-    used += room;
+    used += length;
   }
   return rows.filter((row) => row.length);
 }
@@ -107,33 +107,33 @@ function drawLegend(surface, rows, {x, y, size}) {
   }));
 }
 
-// One puzzle, or its solution, in a room: title, facts, the puzzle as large as it may be, and the
+// One puzzle, or its solution, in a box: title, facts, the puzzle as large as it may be, and the
 // legend.
-function drawEntry(surface, entry, room, {show, solution = false, scale = 1, most = MOST_CELL}) {
+function drawEntry(surface, entry, box, {show, solution = false, scale = 1, most = MOST_CELL}) {
   const [big, small] = [5 * scale, 3.2 * scale];
-  const head = linesOf(entry.head, {width: room.width, size: big * 1.05, most: 2});
-  let top = write(surface, head, {x: room.x, y: room.y, size: big, weight: 700});
+  const head = linesOf(entry.head, {width: box.width, size: big * 1.05, most: 2});
+  let top = write(surface, head, {x: box.x, y: box.y, size: big, weight: 700});
   if (!solution)
     top = write(
         surface,
-        linesOf(entry.facts, {width: room.width, size: small}),
-        {x: room.x, y: top, size: small, ink: FAINT}
+        linesOf(entry.facts, {width: box.width, size: small}),
+        {x: box.x, y: top, size: small, ink: FAINT}
     );
-  const legend = solution ? [] : legendRows(entry.legend, room.width, small);
+  const legend = solution ? [] : legendRows(entry.legend, box.width, small);
   const foot = legend.length * small * 1.5 + (legend.length ? 3 : 0);
   top += 2;
   const size = sizeOfPaper(entry, {hasClues: !solution});
   const cell =
-      Math.min(most, room.width / size.width, (room.y + room.height - top - foot) / size.height);
-  drawPaper(surface, entry, {x: room.x, y: top, cell, show, solution, hasClues: !solution});
-  drawLegend(surface, legend, {x: room.x, y: top + size.height * cell + 2, size: small});
+      Math.min(most, box.width / size.width, (box.y + box.height - top - foot) / size.height);
+  drawPaper(surface, entry, {x: box.x, y: top, cell, show, solution, hasClues: !solution});
+  drawLegend(surface, legend, {x: box.x, y: top + size.height * cell + 2, size: small});
   return cell;
 }
 
 // ---- sheets
 
-// The rooms of a sheet, one a puzzle.
-function roomsOf({width, height, margin}, grid) {
+// The boxes of a sheet, one a puzzle.
+function boxesOf({width, height, margin}, grid) {
   const [across, down] = grid;
   const wide = (width - 2 * margin - (across - 1) * GAP) / across;
   const high = (height - 2 * margin - FOOT - (down - 1) * GAP) / down;
@@ -188,45 +188,45 @@ function drawMap(surface, parts, at, {x, y, side}) {
 // The sheets of one large puzzle: all with cells of one size, and each with a map of the sheets.
 function largeSheets(entry, page, {show, texts}) {
   const parts = partsOf(entry.doc);
-  const [room] = roomsOf(page, [1, 1]);
+  const [box] = boxesOf(page, [1, 1]);
   const [head, side, small] = [24, 20, 3.2];
   const layOut = () => {
-    const legend = legendRows(entry.legend, room.width, small);
-    const free = room.height - head - legend.length * small * 1.5 - 3;
+    const legend = legendRows(entry.legend, box.width, small);
+    const free = box.height - head - legend.length * small * 1.5 - 3;
     const sizes = parts.map((part) => sizeOfPaper(entry, {part, hasNumbers: true}));
     return {
       legend,
       sizes,
       cell: Math.min(
-          MOST_CELL, ...sizes.map((size) => Math.min(room.width / size.width, free / size.height))
+          MOST_CELL, ...sizes.map((size) => Math.min(box.width / size.width, free / size.height))
       )
     };
   };
   let laid = null;  // as soon as one is drawn
   return parts.map((part, at) => (surface) => {
     const {legend, sizes, cell} = (laid ??= layOut());
-    const width = room.width - side - 4;
+    const width = box.width - side - 4;
     let top = write(
         surface,
         linesOf(entry.head, {width, size: 5.2, most: 2}),
-        {x: room.x, y: room.y, size: 5, weight: 700}
+        {x: box.x, y: box.y, size: 5, weight: 700}
     );
     if (at === 0)
       top = write(
           surface,
           linesOf(entry.facts, {width, size: small, most: 1}),
-          {x: room.x, y: top, size: small, ink: FAINT}
+          {x: box.x, y: top, size: small, ink: FAINT}
       );
     write(
         surface,
         linesOf(texts.part({at: at + 1, count: parts.length, ...part}), {width, size: small}),
-        {x: room.x, y: top, size: small, ink: FAINT}
+        {x: box.x, y: top, size: small, ink: FAINT}
     );
-    drawMap(surface, parts, at, {x: room.x + room.width - side, y: room.y, side});
-    drawPaper(surface, entry, {x: room.x, y: room.y + head, cell, show, part, hasNumbers: true});
+    drawMap(surface, parts, at, {x: box.x + box.width - side, y: box.y, side});
+    drawPaper(surface, entry, {x: box.x, y: box.y + head, cell, show, part, hasNumbers: true});
     if (at === 0)
       drawLegend(
-          surface, legend, {x: room.x, y: room.y + head + sizes[at].height * cell + 2, size: small}
+          surface, legend, {x: box.x, y: box.y + head + sizes[at].height * cell + 2, size: small}
       );
     return cell;
   });
@@ -234,23 +234,23 @@ function largeSheets(entry, page, {show, texts}) {
 
 // A sheet of some puzzles, which has room for them.
 function puzzleSheet(entries, page, {perSheet, show}) {
-  const rooms = roomsOf(page, GRIDS[perSheet]);
+  const boxes = boxesOf(page, GRIDS[perSheet]);
   const scale = perSheet === 1 ? 1 : 0.8;
   return (surface) => Math.min(
-             ...entries.map((entry, at) => drawEntry(surface, entry, rooms[at], {show, scale}))
+             ...entries.map((entry, at) => drawEntry(surface, entry, boxes[at], {show, scale}))
          );
 }
 
 // All solutions, small, in the order of the puzzles.
 function answerSheets(entries, page, {show, texts}) {
   const grid = entries.length === 1 ? GRIDS[1] : entries.length <= 4 ? GRIDS[4] : GRIDS[6];
-  const rooms = roomsOf(page, grid);
+  const boxes = boxesOf(page, grid);
   const titled = (entry) => ({...entry, head: texts.solution(entry)});
   const most = entries.length === 1 ? MOST_CELL : ANSWER_CELL;
-  return groupsOf(entries, rooms.length).map((group) => (surface) => {
+  return groupsOf(entries, boxes.length).map((group) => (surface) => {
     group.forEach(
         (entry, at) =>
-            drawEntry(surface, titled(entry), rooms[at], {show, solution: true, scale: 0.8, most})
+            drawEntry(surface, titled(entry), boxes[at], {show, solution: true, scale: 0.8, most})
     );
     return null;
   });

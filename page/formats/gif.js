@@ -11,20 +11,20 @@ const word = (value) => [value & 255, value >> 8];
 // Codes of rising width as bytes, the lowest bits first.
 class Codes {
   bytes = [];
-  held = 0;
+  pending = 0;
   count = 0;
 
   put(code, width) {
-    this.held |= code << this.count;
+    this.pending |= code << this.count;
     this.count += width;
     for (; this.count >= 8; this.count -= 8) {
-      this.bytes.push(this.held & 255);
-      this.held >>>= 8;
+      this.bytes.push(this.pending & 255);
+      this.pending >>>= 8;
     }
   }
 
   end() {
-    if (this.count > 0) this.bytes.push(this.held & 255);
+    if (this.count > 0) this.bytes.push(this.pending & 255);
     return this.bytes;
   }
 }

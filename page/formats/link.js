@@ -34,21 +34,21 @@ async function bytesOf(signs) {
 }
 
 /** The fragment, with its '#', that opens a document to be solved ('play') or changed ('edit'). */
-export async function fragmentOf(doc, way) {
+export async function fragmentOf(doc, kind) {
   const text = webpbnText(doc).replace(/>\n\s*</g, '><');
   const bytes = new TextEncoder().encode(text);
-  return `#${way}=${toSigns(joined([sumOf(bytes), await deflated(bytes)]))}`;
+  return `#${kind}=${toSigns(joined([sumOf(bytes), await deflated(bytes)]))}`;
 }
 
 /**
- * What a fragment opens, `{ way, doc }`, or null where it names no puzzle. Throws a FileFault
+ * What a fragment opens, `{ kind, doc }`, or null where it names no puzzle. Throws a FileFault
  * where it is damaged.
  */
 export async function readFragment(fragment) {
   const found = /^#(play|edit)=(.*)$/.exec(fragment);
   if (!found) return null;
-  const [, way, signs] = found;
+  const [, kind, signs] = found;
   const {doc} = readWebpbn(new TextDecoder().decode(await bytesOf(signs)));
   if (!doc) throw new FileFault(phrase('formats.linkNoPicture'));
-  return {way, doc};
+  return {kind, doc};
 }

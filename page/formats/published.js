@@ -8,14 +8,14 @@ import {phrase} from '../texts/phrase.js';
 
 /**
  * The places of the cells of a file of givens in a picture of that size: a line `given R C` each,
- * none twice.
+ * none twice. A line may end with CR LF.
  */
 export function readGivens(text, {rows, columns}) {
   const found = new Set();
   for (const [at, line] of text.replace(/\n$/, '').split('\n').entries()) {
     if (!text) break;
     const [, row, column] =
-        (/^given (0|[1-9][0-9]{0,2}) (0|[1-9][0-9]{0,2})$/.exec(line) ?? []).map(Number);
+        (/^given (0|[1-9][0-9]{0,2}) (0|[1-9][0-9]{0,2})\r?$/.exec(line) ?? []).map(Number);
     if (row === undefined) throw new FileFault(phrase('formats.lineNoGiven', {line: at + 1}));
     if (row < 1 || row > rows || column < 1 || column > columns)
       throw new FileFault(phrase('formats.givenOutside', {row, column}));

@@ -103,19 +103,19 @@ export function zipEntries(bytes) {
   const count = view.getUint16(end + 10, true);
   if (count > MOST_ENTRIES) throw new FileFault(phrase('formats.archiveTooManyFiles'));
   const [titles, files] = [[], []];
-  let held = 0;
+  let packed = 0;  // bytes of all entries
   for (let at = view.getUint32(end + 16, true), left = count; left > 0; left--) {
     if (at + 46 > bytes.length || view.getUint32(at, true) !== CENTRAL) throw damaged();
-    const [title, extra, comment] = [28, 30, 32].map((place) => view.getUint16(at + place, true));
+    const [title, extra, comment] = [28, 30, 32].map((offset) => view.getUint16(at + offset, true));
     titles.push(bytes.subarray(at + 46, at + 46 + title));
-    const place = at;
-    files.push({size: unpackedSize(view, place), read: () => unpackedEntry(bytes, view, place)});
-    if (files.at(-1).size < Infinity) held += view.getUint32(place + 20, true);
+    const entry = at;
+    files.push({size: unpackedSize(view, entry), read: () => unpackedEntry(bytes, view, entry)});
+    if (files.at(-1).size < Infinity) packed += view.getUint32(entry + 20, true);
     at += 46 + title + extra + comment;
   }
   const whole = files.reduce((sum, {size}) => sum + (size < Infinity ? size : 0), 0);
   if (whole > MOST_UNPACKED) throw new FileFault(phrase('formats.archiveTooManyFiles'));
-  if (held > bytes.length)
+  if (packed > bytes.length)
     throw damaged();  // entries that lie over one another would be unpacked again and again
   const names = namesOf(titles);
   return files.map((file, at) => ({name: names[at], ...file}));

@@ -13,7 +13,7 @@ const made = {
   ask: null    // asks for another one of the same image; null where its user has none
 };
 
-/** Keeps how the document at hand is made of its image. */
+/** Keeps how the open document is made of its image. */
 export function keepMade(ask) {
   Object.assign(made, {term: bench.term, ask});
 }

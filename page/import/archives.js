@@ -18,7 +18,7 @@ const MANY = 200;  // files: more are asked for first
 
 /**
  * A zip of records, each as an XML file, and of what else goes with them. Null where a record does
- * not open, which is told, or where it is stopped.
+ * not open, which is reported, or where it is stopped.
  */
 export async function archiveOf(records, others = [], start = undefined, progress = UNSEEN) {
   const [zip, taken] = [new ZipWriter(), new Map()];
@@ -31,7 +31,7 @@ export async function archiveOf(records, others = [], start = undefined, progres
 }
 
 /**
- * Hands records to the user as an archive under a name, and says a text of it; answers whether
+ * Gives records to the user as an archive under a name, and says a text of it; answers whether
  * that was stopped.
  */
 export const saveArchive = (records, {file, text, kind = '', others = []}) =>
@@ -44,7 +44,7 @@ export const saveArchive = (records, {file, text, kind = '', others = []}) =>
     });
 
 /**
- * All pictures of the library, null where one is damaged; the one at hand is as it is seen, also
+ * All pictures of the library, null where one is damaged; the open one is as it is seen, also
  * where the storage does not take that.
  */
 export async function allRecords() {
@@ -56,7 +56,7 @@ export async function allRecords() {
   return Promise.all([...(own ? [own] : []), ...others]);
 }
 
-/** Hands all pictures of the library to the user as one archive. */
+/** Gives all pictures of the library to the user as one archive. */
 export const exportAll = () => keep.tried(async () => {
   const records = await allRecords();
   const sound = records.filter(Boolean);

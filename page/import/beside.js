@@ -107,7 +107,8 @@ async function* puzzlesOf(unit, progress, imageDocs, isOver) {
   const {file} = unit;
   const own = bareName(file.name);
   const {docs, left} = await docsOfUnit(unit, imageDocs, progress);
-  if (!docs.length) throw new FileFault(phrase('import.notPuzzleImageScaled'));
+  if (!docs.length)
+    throw Object.assign(new FileFault(phrase('import.notPuzzleImageScaled')), {isImage: true});
   for (const [at, one] of docs.entries()) {
     if (at && !(await progress.goesOn(phrase('import.certificateSays', {
           name: own,
@@ -133,8 +134,8 @@ async function* puzzlesOf(unit, progress, imageDocs, isOver) {
 
 /**
  * The puzzles of units one after the other, until the user stops it: each as `{ name, file, doc }`,
- * and what is not read as
- * `{ name, file, fault }`. With `imageDocs`, as for a table, there are 2,000 at most; without, as
+ * and what is not read as `{ name, file, fault }`, where the fault of an image for the dialog says
+ * `isImage`. With `imageDocs`, as for a table, there are 2,000 at most; without, as
  * many whose picture is searched for.
  * @returns {AsyncGenerator<any>}
  */

@@ -70,6 +70,39 @@ export class Votes {
   }
 }
 
+// Where the error of a cell goes, as far as rows are read from the left: so many rows down, so many
+// cells on, and how many sixteenths of it.
+const SPREAD = [[0, 1, 7], [1, -1, 3], [1, 0, 5], [1, 1, 1]];
+
+// The errors of cells in Oklab, of a row and of the next one. Each row has a cell more at its ends.
+class Errors {
+  constructor(width) {
+    this.width = width + 2;
+    this.all = new Float64Array(2 * this.width * 3);
+  }
+
+  #place(row, col) {
+    return ((row % 2) * this.width + col + 1) * 3;
+  }
+
+  at(row, col) {
+    const place = this.#place(row, col);
+    return this.all.subarray(place, place + 3);
+  }
+
+  // Nothing was added to a row so far.
+  clear(row) {
+    this.all.fill(0, this.#place(row, -1), this.#place(row, -1) + this.width * 3);
+  }
+
+  spread(row, col, way, error) {
+    for (const [down, on, part] of SPREAD) {
+      const to = this.at(row + down, col + on * way);
+      for (let axis = 0; axis < 3; axis++) to[axis] += (error[axis] * part) / 16;
+    }
+  }
+}
+
 /**
  * For each cell the number of a colour, where the error of each goes on to the next ones (Floyd
  * and Steinberg, 1976, in Oklab).
@@ -77,10 +110,9 @@ export class Votes {
 export function dithered({width, height, data}, palette) {
   const labs = palette.map((triple) => oklabOf(...triple));
   const numbers = new Int8Array(width * height);
-  const errors = new Float64Array((width + 2) * 2 * 3);  // of this row and the next one
-  const place = (row, col) => ((row % 2) * (width + 2) + col + 1) * 3;
+  const errors = new Errors(width);
   for (let row = 0; row < height; row++) {
-    errors.fill(0, place(row + 1, -1), place(row + 1, -1) + (width + 2) * 3);
+    errors.clear(row + 1);
     const way = row % 2 ? -1 : 1;
     for (let step = 0; step < width; step++) {
       const col = way > 0 ? step : width - 1 - step;
@@ -89,16 +121,12 @@ export function dithered({width, height, data}, palette) {
         numbers[at / 4] = -1;
         continue;
       }
-      const wanted = oklabOf(
-                         data[at], data[at + 1], data[at + 2]
-      ).map((one, axis) => one + errors[place(row, col) + axis]);
+      const own = errors.at(row, col);
+      const wanted =
+          oklabOf(data[at], data[at + 1], data[at + 2]).map((one, axis) => one + own[axis]);
       const number = nearestOf(labs, wanted);
       numbers[at / 4] = number;
-      for (const [down, across, part] of [[0, way, 7], [1, -way, 3], [1, 0, 5], [1, way, 1]]) {
-        for (let axis = 0; axis < 3; axis++)
-          errors[place(row + down, col + across) + axis] +=
-              ((wanted[axis] - labs[number][axis]) * part) / 16;
-      }
+      errors.spread(row, col, way, wanted.map((one, axis) => one - labs[number][axis]));
     }
   }
   return numbers;
@@ -129,6 +157,15 @@ function besides(cell, columns, count) {
   ].filter((one) => one >= 0 && one < count);
 }
 
+// The number that most of the neighbours of a patch have.
+function numberAround(numbers, columns, cells) {
+  const [own, counts] = [numbers[cells[0]], new Map()];
+  for (const next of cells.flatMap((cell) => besides(cell, columns, numbers.length)))
+    if (numbers[next] !== own) counts.set(numbers[next], (counts.get(numbers[next]) ?? 0) + 1);
+  const [[number]] = [...counts].sort((a, b) => b[1] - a[1]);
+  return number;
+}
+
 /**
  * Numbers without patches of at most so many cells: each gets the number that most of its
  * neighbours have, the smallest first.
@@ -141,13 +178,8 @@ export function withoutSpecks(numbers, columns, most) {
       if (met[cell]) continue;
       const cells = patchOf(left, columns, cell, met);
       if (cells.length > size || cells.length === left.length) continue;
-      const own = left[cell];
-      const around = new Map();
-      for (const one of cells)
-        for (const next of besides(one, columns, left.length))
-          if (left[next] !== own) around.set(left[next], (around.get(left[next]) ?? 0) + 1);
-      const [[into]] = [...around].sort((a, b) => b[1] - a[1]);
-      for (const one of cells) left[one] = into;
+      const number = numberAround(left, columns, cells);
+      for (const one of cells) left[one] = number;
     }
   }
   return left;

@@ -1,4 +1,4 @@
-// A certificate that comes in: checked against the picture at hand by the proved checker.
+// A certificate that comes in: checked against the open picture by the proved checker.
 
 import {say} from '../base/elements.js';
 import {on} from '../base/events.js';
@@ -69,8 +69,8 @@ async function checkedCertificate(certificate, doc, engine) {
 }
 
 /**
- * Checks a certificate against the picture at hand, until the user stops it, and tells what came
- * of it for as long as that is at hand.
+ * Checks a certificate against the open picture, until the user stops it, and tells what came
+ * of it for as long as that is open.
  */
 export async function takeCertificate(certificate, name) {
   if (!bench.state) {

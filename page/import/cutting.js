@@ -61,7 +61,7 @@ export class Cutting {
         this.canvas,
         make(
             'div',
-            {class: 'ground'},
+            {class: 'group'},
             field('columns', phrase('view.columns'), 1, MOST_FIELDS),
             field('rows', phrase('view.rows'), 1, MOST_FIELDS),
             field('gap', phrase('import.gap'), 0, most),

@@ -67,8 +67,9 @@ async function imageOfSvg(text, most) {
 }
 
 /**
- * The pixels of an image file, after the size in its head was looked at: the browser reads the
- * rest of it.
+ * The pixels of an image file, made smaller to MOST_SIDE, as the browser decodes it: {width,
+ * height, data}. `head` are its first bytes, and a size there that is too large is refused before
+ * that.
  */
 export async function imageOfFile(file, head, kind) {
   if (NOT_DRAWN[kind]) throw new FileFault(phrase('import.saveAsPng', {kind: NOT_DRAWN[kind]}));

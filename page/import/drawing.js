@@ -46,18 +46,18 @@ export function readyDrawing(text, most) {
   if (root.querySelector('set, animate, foreignObject'))
     return MOVES;  // other addresses of an element; HTML
   if (drawnOf(root) > MOST_DRAWN) return 'formats.thereTooManyElements';
-  const told = {
+  const attributes = {
     width: root.getAttribute('width'),
     height: root.getAttribute('height'),
     viewBox: root.getAttribute('viewBox')
   };
-  const size = sizeOfSvg(told);
+  const size = sizeOfSvg(attributes);
   const longer = Math.max(...size);
   const [width, height] = size.map(
       (length) =>
           Math.max(1, Math.round((length * Math.min(most, Math.max(USUAL, longer))) / longer))
   );
-  if (!told.viewBox) root.setAttribute('viewBox', `0 0 ${size.join(' ')}`);
+  if (!attributes.viewBox) root.setAttribute('viewBox', `0 0 ${size.join(' ')}`);
   root.setAttribute('width', String(width));
   root.setAttribute('height', String(height));
   const written = new XMLSerializer().serializeToString(root);

@@ -33,7 +33,7 @@ export const unescaped = (text) =>
 const isLong = (text) => text.split(/[{;(\\]|\/\*/, MOST_DRAWN + 1).length >
     MOST_DRAWN;  // CSS with more in it than is looked at
 
-// An address of a property: the id as it is told, and without its escapes.
+// An address of a property: the id as it is written, and without its escapes.
 const addressOf =
     (property, id) => [property, id.trim(), unescape(id.trim().replace(/[\t\n\r]/g, ''))];
 
@@ -85,46 +85,63 @@ function* addressesOf(element, rules) {
     yield* rules.get(name) ?? [];
 }
 
-// All elements as Map to { plus, times }: the elements whose counts are added to its own, and those
-// by whose counts it is multiplied. Null where there are more elements, or addresses, than are
-// looked at.
-function partsOf(root) {
-  const [all, ids, holding] = [[root], new Map(), new Set()];
+// All elements, and by its id the first with each; null where there are more than are looked at.
+function elementsOf(root) {
+  const [all, ids] = [[root], new Map()];
   for (const element of all) {
     if (all.length > MOST_DRAWN) return null;
     if (element.id && !ids.has(element.id)) ids.set(element.id, element);
     for (const child of element.children) all.push(child);
   }
-  // Which hold a `use`: the browser fills it with elements also where it draws none of them.
+  return {all, ids};
+}
+
+// Which of all hold a `use`: the browser fills it with elements also where it draws none of them.
+function holdersOf(all) {
+  const holding = new Set();
   for (const one of [...all].reverse())
     if (one.localName === 'use' || [...one.children].some((child) => holding.has(child)))
       holding.add(one);
+  return holding;
+}
+
+// Adds to the parts of an element those that its addresses name. Answers false where they are more
+// than are looked at.
+function addTargets(own, found, ids, work) {
+  for (const addresses of found) {
+    work.left -= 1 + (addresses?.length ?? work.left);
+    if (work.left < 0) return false;
+    for (const [property, id, plain] of addresses) {
+      const target = ids.get(id) ?? ids.get(plain);
+      if (target && !GRADIENTS.has(target.localName))
+        (ONCE.test(property) ? own.plus : own.times).push(target);
+    }
+  }
+  return true;
+}
+
+// All elements as Map to { plus, times }: the elements whose counts are added to its own, and those
+// by whose counts it is multiplied. Null where there are more elements, or addresses, than are
+// looked at.
+function partsOf(root) {
+  const {all, ids} = elementsOf(root) ?? {};
+  if (!all) return null;
   const sheets =
       all.filter((one) => one.localName === 'style').map((one) => one.textContent).join('\n');
   if (isLong(sheets)) return null;
-  const rules = rulesOf(sheets);
-  const parts = new Map(all.map(
-      (element) => [element, {
-        plus: [...element.children].filter((one) => holding.has(one) || !HIDDEN.has(one.localName)),
-        times: [],
-        inherited: []
-      }]
-  ));
-  let left = 50 * MOST_DRAWN;
+  const [rules, holding] = [rulesOf(sheets), holdersOf(all)];
+  const partsAt = (element) => ({
+    plus: [...element.children].filter((one) => holding.has(one) || !HIDDEN.has(one.localName)),
+    times: [],
+    inherited: []
+  });
+  const parts = new Map(all.map((element) => [element, partsAt(element)]));
+  const work = {left: 50 * MOST_DRAWN};
   for (const element of all) {
     const own = parts.get(element);
-    left -= own.inherited.length +
-        (element.getAttribute('class') ?? '').length / 2;  // as many names at most
-    if (left < 0) return null;
-    for (const addresses of addressesOf(element, rules)) {
-      left -= 1 + (addresses?.length ?? left);
-      if (left < 0) return null;
-      for (const [property, id, plain] of addresses) {
-        const target = ids.get(id) ?? ids.get(plain);
-        if (target && !GRADIENTS.has(target.localName))
-          (ONCE.test(property) ? own.plus : own.times).push(target);
-      }
-    }
+    const names = (element.getAttribute('class') ?? '').length / 2;  // at most
+    work.left -= own.inherited.length + names;
+    if (work.left < 0 || !addTargets(own, addressesOf(element, rules), ids, work)) return null;
     const passed =
         own.times.length ? [...new Set([...own.inherited, ...own.times])] : own.inherited;
     for (const child of element.children) parts.get(child).inherited = passed;

@@ -117,7 +117,7 @@ function sizeOfBmp(bytes) {
 }
 
 // The size of an AVIF: that of the largest of its items, by their properties `ispe`; null where
-// they are not at hand, or it is a sequence.
+// they are not known, or it is a sequence.
 function sizeOfAvif(bytes) {
   let [at, size] = [0, null];
   while (at + 8 <= bytes.length && !bytesBegin(bytes, 'meta', at + 4))
@@ -240,10 +240,10 @@ export function dotSize({width, height, data}) {
 export const isTransparent = (data, at) => data[at + 3] < 128;
 
 /**
- * An image as a document, pixel by pixel, or null where it has too many pixels or colours for that.
- * The background is what is transparent, shown white, and `background`, else white. Null too where
- * none is told and the image has none of it, and where it has what is transparent and white
- * besides: then the background is the user's choice.
+ * An image as a document, pixel by pixel, or null if it has too many pixels or colours for that.
+ * The background is what is transparent, shown as `background` or else white; or what has that
+ * colour. Null too if there are both, and if no background is named and there is neither: then it
+ * is the user's choice.
  */
 export function docOfImage({width, height, data}, background = null) {
   if (width > MOST_CELLS || height > MOST_CELLS) return null;
@@ -262,7 +262,7 @@ export function docOfImage({width, height, data}, background = null) {
       continue;
     }
     const key = (data[at] << 16) | (data[at + 1] << 8) | data[at + 2];
-    if (key === groundKey && clear && !background) return null;
+    if (key === groundKey && clear) return null;
     if (key === groundKey) met = true;
     if (!numbers.has(key)) {
       if (colours.length === MOST_COLOURS) return null;

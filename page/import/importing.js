@@ -2,7 +2,7 @@
 // colours, and what comes of it, drawn anew at each change, with its verdict.
 
 import {fieldOf, hasFingers, make} from '../base/elements.js';
-import {verdictPlace} from '../base/names.js';
+import {verdictRank} from '../base/names.js';
 import {capital, clamp} from '../base/words.js';
 import {MOST_CELLS, MOST_COLOURS} from '../document/limits.js';
 import {COLOUR_NAMES} from '../document/named.js';
@@ -102,7 +102,7 @@ class Importing {
     });
     this.turning = new Turning(() => this.change('turning'), () => this.showBest());
     this.judged = (found) => {
-      const icon = verdictPlace(found.word) < 0 ? [] : [iconOf(found.word)];
+      const icon = verdictRank(found.word) < 0 ? [] : [iconOf(found.word)];
       this.verdict.dataset.verdict = found.word;
       this.verdict.replaceChildren(...icon, judgedText(found));
     };
@@ -139,7 +139,7 @@ class Importing {
   tick(name, checked = false) {
     this[name] = make('input', {type: 'checkbox', checked});
     this[name].addEventListener('input', () => this.change(name));
-    return make('label', {class: 'tick'}, this[name], LABELS[name]);
+    return make('label', {}, this[name], LABELS[name]);
   }
 
   slider(name, min, max, value) {
@@ -196,7 +196,7 @@ class Importing {
         this.field('high', {min: '1', max: height, value: height}),
         make(
             'div',
-            {class: 'ground'},
+            {class: 'group'},
             make(
                 'button',
                 {type: 'button', onclick: () => this.take({x: 0, y: 0, width, height})},
@@ -271,16 +271,14 @@ class Importing {
       turned: [segments, this.turning.element]
     };
     this.ofArea = area;
+    // What comes and goes with a tick is last, so that nothing moves under the pointer.
     return make(
         'fieldset',
         {},
         make('legend', {}, phrase('view.colours')),
-        count,
         this.tick('two'),
-        ...this.parted.two,
-        make('div', {class: 'ground'}, this.tick('turned'), this.turning.button),
-        ...this.parted.turned,
-        this.inks.element
+        make('div', {class: 'group'}, this.tick('turned'), this.turning.button),
+        ...Object.values(this.parted).flat()
     );
   }
 
@@ -467,9 +465,10 @@ class Importing {
   }
 
   // The document that `make` gives for options: of segments that in two colours.
-  made(make) {
+  made(make, isSketch = false) {
     if (!this.turned.checked) return make(this.options());
-    return this.turning.docOf(make(this.segmentOptions()), {specks: this.options(false).specks});
+    const [doc, specks] = [make(this.segmentOptions()), {specks: Number(this.specks.value)}];
+    return isSketch ? this.turning.sketchOf(doc, specks) : this.turning.docOf(doc, specks);
   }
 
   segmentOptions() {
@@ -478,11 +477,12 @@ class Importing {
   }
 
   // Lets the user choose among the best six, and takes that.
-  async showBest() {
+  showBest() {
     const doc = this.maker.doc(this.part(), this.size, this.segmentOptions());
-    if (!(await this.turning.askBest(doc, {specks: Number(this.specks.value)}))) return;
-    this.turned.checked = true;
-    this.change('turned');
+    return this.turning.askBest(doc, {specks: Number(this.specks.value)}, () => {
+      this.turned.checked = true;
+      this.change('turned');
+    });
   }
 
   options(isTwo = this.two.checked) {
@@ -515,7 +515,7 @@ class Importing {
     clearTimeout(this.timer);
     this.timer = setTimeout(() => this.isWaiting && this.show(), SKETCH_REST);
     const part = {image: this.full, box: this.crop};
-    this.doc = this.made((options) => this.maker.sketch(part, this.size, options));
+    this.doc = this.made((options) => this.maker.sketch(part, this.size, options), true);
     this.judging.wait();
     this.draw();
     this.preview.dataset.ms = (performance.now() - begun).toFixed(1);

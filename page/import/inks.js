@@ -5,11 +5,12 @@
 import {make} from '../base/elements.js';
 import {markRadio, radioGroup} from '../base/radios.js';
 import {capital} from '../base/words.js';
-import {hexOf, isAmong, isSame, oklabOf, tripleOf} from '../document/colours.js';
+import {hexOf, inkOn, isAmong, isSame, oklabOf, tripleOf} from '../document/colours.js';
 import {LETTERS} from '../document/limits.js';
 import {colourNamed} from '../document/named.js';
 import {nameOf} from '../document/names.js';
 import {mergedNumbers} from '../document/near.js';
+import {iconOf} from '../draw/icons.js';
 import {readPalette} from '../formats/palettes.js';
 import {LANGUAGE, phrase} from '../texts/phrase.js';
 import {LOCKED_FAR} from './quantise.js';
@@ -26,81 +27,83 @@ const noEdits = () => ({locked: [], dropped: [], replaced: [], background: null,
 export class Inks {
   changed;
   counts;
-  doc;
+  doc = null;
   isClear;
+  edits = noEdits();
+  at = 0;
+  wanted = null;
+  row = make('div', {
+    class: 'swatches',
+    role: 'radiogroup',
+    'aria-label': phrase('import.palette'),
+    id: 'import-palette'
+  });
+  text = make('output', {class: 'faint', id: 'import-ink'});
+  ground = make(
+      'button',
+      {type: 'button', onclick: () => this.edit({background: this.source})},
+      capital(phrase('view.background'))
+  );
+  locked = make('input', {type: 'checkbox', id: 'import-lock'});
+  dropped = make(
+      'button',
+      {type: 'button', id: 'import-drop', onclick: () => this.drop()},
+      phrase('import.remove')
+  );
+  picker = make('input', {type: 'color', 'aria-label': phrase('import.replace')});
+  named = make('input', {
+    type: 'text',
+    'aria-label': phrase('view.chosenColourName'),
+    placeholder: phrase('view.name123abc'),
+    list: 'colour-names',
+    size: 12
+  });
+  file = make('input', {type: 'file', accept: '.gpl,.pal,.hex,.txt', hidden: true});
+  said = make('p', {class: 'faint', role: 'status'});
 
   /** `changed` hears each edit; `counts` hears by how many there are more colours. */
   constructor(changed, counts) {
-    Object.assign(this, {changed, counts, edits: noEdits(), doc: null, at: 0, wanted: null});
-    this.row = make('div', {
-      class: 'swatches',
-      role: 'radiogroup',
-      'aria-label': phrase('import.palette'),
-      id: 'import-palette'
-    });
-    this.text = make('output', {class: 'faint', id: 'import-ink'});
-    this.ground = make(
-        'button',
-        {type: 'button', onclick: () => this.edit({background: this.source})},
-        capital(phrase('view.background'))
-    );
-    this.locked = make('input', {type: 'checkbox', id: 'import-lock'});
-    this.picker = make('input', {type: 'color', 'aria-label': phrase('import.replace')});
-    this.named = make('input', {
-      type: 'text',
-      'aria-label': phrase('view.chosenColourName'),
-      placeholder: phrase('view.name123abc'),
-      list: 'colour-names',
-      size: 12
-    });
-    this.dropped = make(
-        'button',
-        {type: 'button', id: 'import-drop', onclick: () => this.drop()},
-        phrase('import.remove')
-    );
-    this.file = make('input', {type: 'file', accept: '.gpl,.pal,.hex,.txt', hidden: true});
-    this.said = make('p', {class: 'faint', role: 'status'});
+    Object.assign(this, {changed, counts});
     this.element = make(
         'div',
         {class: 'inks'},
         this.row,
         this.text,
-        make(
-            'div',
-            {class: 'ground'},
-            this.ground,
-            make(
-                'label',
-                {title: phrase('import.staysHoweverManyColours')},
-                this.locked,
-                capital(phrase('view.locked'))
-            ),
-            this.dropped
-        ),
-        make(
-            'div',
-            {class: 'ground'},
-            make('label', {}, phrase('import.replace'), this.picker),
-            this.named
-        ),
-        make(
-            'div',
-            {class: 'ground'},
-            make(
-                'button',
-                {type: 'button', id: 'import-file', onclick: () => this.file.click()},
-                phrase('import.paletteFile')
-            ),
-            this.file,
-            make(
-                'button',
-                {type: 'button', id: 'import-reset', onclick: () => this.reset()},
-                phrase('play.startOver')
-            )
-        ),
+        this.rowOfOne(),
+        this.rowOfReplacing(),
+        this.rowOfFiles(),
         this.said
     );
     this.hear();
+  }
+
+  // What makes the chosen colour the background, locks or drops it.
+  rowOfOne() {
+    const locked = make(
+        'label',
+        {title: phrase('import.staysHoweverManyColours')},
+        this.locked,
+        capital(phrase('view.locked'))
+    );
+    return make('div', {class: 'group'}, this.ground, locked, this.dropped);
+  }
+
+  // What replaces the chosen colour: a picker, and a field for its name.
+  rowOfReplacing() {
+    const label = make('label', {}, phrase('import.replace'), this.picker);
+    return make('div', {class: 'group'}, label, this.named);
+  }
+
+  // What takes a palette of a file, and what goes back to that of the image.
+  rowOfFiles() {
+    const button = (id, name, onclick) => make('button', {type: 'button', id, onclick}, name);
+    return make(
+        'div',
+        {class: 'group'},
+        button('import-file', phrase('import.paletteFile'), () => this.file.click()),
+        this.file,
+        button('import-reset', phrase('play.startOver'), () => this.reset())
+    );
   }
 
   hear() {
@@ -120,7 +123,7 @@ export class Inks {
     this.file.addEventListener('change', () => this.file.files[0] && this.read(this.file.files[0]));
   }
 
-  /** What docOfCells is told. */
+  /** What docOfCells is given. */
   get options() {
     return this.edits;
   }
@@ -231,8 +234,9 @@ export class Inks {
     for (const [at, triple] of doc.colours.entries()) {
       const button = this.row.children[at];
       button.title = button.style.background = hexOf(triple, 255);
-      button.textContent = at === 0 ? '·' : this.isLocked(at) ? '■' : '';
-      button.style.color = triple[0] * 2 + triple[1] * 5 + triple[2] > 1100 ? '#000' : '#fff';
+      const icon = at === 0 ? 'blank' : this.isLocked(at) ? 'lock' : null;
+      button.replaceChildren(icon ? iconOf(icon) : '');
+      button.style.color = inkOn(triple, 255);
     }
     this.mark();
     if (had) /** @type {any} */

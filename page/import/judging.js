@@ -17,7 +17,7 @@ const TEXT = {
 const REST = 120;  // milliseconds without a change
 const MOST_SECONDS = 5;
 
-/** What is told of a document: in words. */
+/** What is said of a document, in words. */
 export function judgedText({word, open = 0, grade = null}) {
   const more = !open       ? '' :
       word === 'unique'    ? phrase('import.cellsNeedGuessing', {count: open}) :
@@ -31,7 +31,7 @@ export function judgedText({word, open = 0, grade = null}) {
  * worked on.
  */
 export class Judging {
-  told;
+  report;
   start;
   seconds;
   rest;
@@ -39,8 +39,8 @@ export class Judging {
   timer;
   isBusy;
 
-  constructor(told, {start = startEngine, seconds = MOST_SECONDS, rest = REST} = {}) {
-    Object.assign(this, {told, start, seconds, rest, turn: 0, timer: 0, isBusy: false});
+  constructor(report, {start = startEngine, seconds = MOST_SECONDS, rest = REST} = {}) {
+    Object.assign(this, {report, start, seconds, rest, turn: 0, timer: 0, isBusy: false});
     this.judge = new Judge(this);
   }
 
@@ -48,11 +48,12 @@ export class Judging {
   wait() {
     clearTimeout(this.timer);
     this.turn++;
-    this.told({word: 'works'});
+    this.report({word: 'works'});
   }
 
   /**
-   * Asks for a document's verdict; `told` hears {word, open, grade}, of the newest document alone.
+   * Asks for a document's verdict; `report` hears {word, open, grade}, of the newest document
+   * alone.
    */
   ask(doc) {
     this.wait();
@@ -74,7 +75,7 @@ export class Judging {
     const said = await this.judge.judge(doc).catch(() => ({isLate: false}));
     if (turn !== this.turn) return;
     this.isBusy = false;
-    this.told(
+    this.report(
         said.isLate === false ? {word: 'failed'} :
                                 {word: said.verdict, open: said.open, grade: gradeIn(said)}
     );

@@ -1,7 +1,7 @@
 // Palette files beside a picture that is open: their colours are added, or the picture's become the
 // nearest of them; and the picture's colours as such a file.
 
-import {choiceOf, chooseFiles, make, say} from '../base/elements.js';
+import {choiceOf, chooseFiles, fieldOf, make, say} from '../base/elements.js';
 import {cleanName, opening} from '../base/words.js';
 import {hexOf, isAmong} from '../document/colours.js';
 import {eightBitDoc} from '../document/document.js';
@@ -135,15 +135,14 @@ export function paletteOf(doc, name) {
 }
 
 async function savePalette() {
-  const choice =
-      choiceOf({'aria-label': phrase('library.form'), id: 'palette-kind'}, Object.entries({
-        gpl: phrase('import.gimpGpl'),
-        pal: phrase('import.jascPal'),
-        hex: phrase('import.hexadecimalHex')
-      }));
+  const choice = choiceOf({id: 'palette-kind'}, Object.entries({
+    gpl: phrase('import.gimpGpl'),
+    pal: phrase('import.jascPal'),
+    hex: phrase('import.hexadecimalHex')
+  }));
   const kind = await openDialog({
     title: phrase('import.savePalette'),
-    content: make('label', {}, phrase('library.form'), choice),
+    content: fieldOf(phrase('library.form'), choice),
     buttons: [{name: phrase('library.save'), value: () => choice.value, main: true}]
   });
   if (!kind) return;

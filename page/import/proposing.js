@@ -9,8 +9,9 @@ import {MOST_POINTS, Maker} from './making.js';
 import {docOfCells} from './quantise.js';
 import {hasClear, hasFewColours, spotsOf} from './spots.js';
 
-const SMALL = 0.003;  // of the area: a beak, a nose, a star
-const FEW = 8;        // colours that a puzzle has easily
+const SMALL = 0.003;      // of the area: a beak, a nose, a star
+const FEW = 8;            // colours that a puzzle has easily
+const MOST_SMALL = 1024;  // pixels a side of an icon or a drawing, which photos exceed
 
 // How many colours flat art has: those of small features too, where all of them are few.
 function flatColours(image) {
@@ -110,6 +111,16 @@ export function docByItself(image, background = null) {
     all,
     isMade: true
   };
+}
+
+/**
+ * The document of an image among several files: by itself, else what the dialog proposes, of a
+ * small image. Null for a large one, and for one with a `background` that does not open by itself.
+ */
+export function docAmongSeveral(image, background = null) {
+  const doc = docByItself(image, background);
+  if (doc || background || Math.max(image.width, image.height) > MOST_SMALL) return doc;
+  return {...docProposed(image), isMade: true};
 }
 
 /**

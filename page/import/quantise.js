@@ -7,7 +7,17 @@ import {coloursTooNear} from '../document/near.js';
 import {Votes, dithered, withoutSpecks} from './cells.js';
 import {flatPalette, isFlat, nearestPalette} from './flat.js';
 import {photoPalette} from './photo.js';
-import {ALIKE, EXACT, farness, hasClear, hasFewColours, nearestOf, numbersFor, once, spotsOf} from './spots.js';
+import {
+  ALIKE,
+  EXACT,
+  farness,
+  hasClear,
+  hasFewColours,
+  nearestOf,
+  numbersFor,
+  once,
+  spotsOf
+} from './spots.js';
 import {drawnCells} from './tone.js';
 
 export const LOCKED_FAR = 0.04 ** 2;  // a locked colour takes the place of one within that

@@ -100,17 +100,16 @@ export async function docOfPuzzle(one, progress) {
 }
 
 /**
- * The documents that a file of puzzles holds; none where it has no picture that opens by itself. Of
- * several puzzles one that is not read stands as `{ fault }`, and clues alone as `{ non, page }`.
- * `ground(image, maxval)` gives the background that is told beside the file.
+ * The documents that a file of puzzles holds; none where it is a picture that does not open by
+ * itself. Of several puzzles one that is not read stands as `{ fault }`, and clues alone as `{ non,
+ * page }`. `ground(image, maxval)` gives the background that is told beside the file.
  */
 export async function docsOfBytes(bytes, ground, progress) {
   const kind = kindOfFile(bytes);
   if (kind === 'ppm') return [await docOfPpm(bytes, ground)].filter(Boolean);
   const text = new TextDecoder().decode(bytes);
-  const puzzles = kind === 'xml'        ? readXmlFile(text) :
-      kind === 'non' && isNonText(text) ? [{non: text, page: {about: aboutNon(text)}}] :
-                                          [];
+  if (kind !== 'xml' && !(kind === 'non' && isNonText(text))) throw new FileFault(NOT_READ);
+  const puzzles = kind === 'xml' ? readXmlFile(text) : [{non: text, page: {about: aboutNon(text)}}];
   const docs = puzzles.map((one) => one.doc ?? one);
   if (docs.length !== 1) return docs;
   const doc = await docOfPuzzle(docs[0], progress);

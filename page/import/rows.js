@@ -2,7 +2,7 @@
 // known about it so far.
 
 import {make} from '../base/elements.js';
-import {gradeName, gradePlace, verdictName, verdictPlace} from '../base/names.js';
+import {gradeName, gradeRank, verdictName, verdictRank} from '../base/names.js';
 import {sizeText} from '../base/words.js';
 import {nameOf} from '../document/names.js';
 import {iconOf} from '../draw/icons.js';
@@ -43,15 +43,17 @@ const countOf = ({colours: {length}, all = 0}) =>
 
 /** A picture out of a file, with what is known about it so far. */
 export class Row {
-  constructor(name, doc, fault = '') {
+  /** `fault` is why there is no document; of an image `convert` opens the dialog for pictures. */
+  constructor(name, doc, fault = '', convert = null) {
     this.name = name;
     this.doc = doc;
     this.fault = fault;
+    this.convert = convert;
     this.word = doc ? '…' : '';
     this.repainted = 0;  // cells
     /** @type {any} */
     this.said = null;  // by the engine
-    this.element = make('tr', {tabindex: doc ? '0' : null, 'data-name': name});
+    this.element = make('tr', {tabindex: this.isOpened ? '0' : null, 'data-name': name});
     this.show();
   }
 
@@ -82,8 +84,8 @@ export class Row {
           this.name,
           doc.rows * doc.columns,
           doc.colours.length,
-          verdictPlace(word),
-          gradePlace(grade?.word),
+          verdictRank(word),
+          gradeRank(grade?.word),
           said?.fit ? 0 : 1
         ] :
         [this.name, ...Array(HEADS.length - 1).fill(Infinity)];
@@ -92,7 +94,7 @@ export class Row {
   // The cells of a picture's row: the verdict has its icon, and its colour by `data-verdict`.
   cellsOf(texts) {
     return texts.map((text, at) => {
-      const isVerdict = HEADS[at + 1] === phrase('import.verdict') && verdictPlace(this.word) >= 0;
+      const isVerdict = HEADS[at + 1] === phrase('import.verdict') && verdictRank(this.word) >= 0;
       return isVerdict ? make('td', {'data-verdict': this.word}, iconOf(this.word), ` ${text}`) :
                          make('td', {}, text);
     });
@@ -124,6 +126,11 @@ export class Row {
    */
   get isSaved() {
     return !this.repainted && !this.doc.isMade;
+  }
+
+  /** Whether a click on the row opens its picture. */
+  get isOpened() {
+    return this.doc !== null || this.convert !== null;
   }
 
   /** Whether a repair is looked for. */

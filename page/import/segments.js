@@ -4,7 +4,7 @@
 import {oklabOf} from '../document/colours.js';
 import {LETTERS} from '../document/limits.js';
 import {withoutSpecks} from './cells.js';
-import {farness} from './spots.js';
+import {farness, nearestOf} from './spots.js';
 
 const PAPER = [255, 255, 255];
 const INK = [0, 0, 0];
@@ -79,6 +79,17 @@ export function rankedChoices(doc, most) {
 }
 
 /**
+ * Whether each colour of a document is ink, as the nearest one of `sides` is, a map from triples as
+ * texts; without any, by the first choice.
+ */
+export function sidesNear(doc, sides) {
+  if (!sides.size) return rankedChoices(doc, 1)[0] ?? [];
+  const known = [...sides.values()];
+  const places = [...sides.keys()].map((key) => oklabOf(...key.split(',').map(Number)));
+  return segmentsOf(doc).map((triple) => known[nearestOf(places, oklabOf(...triple))]);
+}
+
+/**
  * The document in two colours of one in several: the cells of those that are ink are drawn,
  * without patches of at most `specks` cells.
  */
@@ -103,7 +114,8 @@ export const SEGMENTS = 6;
 
 /** How many choices are judged for the best six. */
 export const CANDIDATES = 16;
-const SHOWN = 6;
+/** How many of them are shown. */
+export const SHOWN = 6;
 
 /**
  * The best six of some documents that come ranked, each with what `judge` says of it: those with

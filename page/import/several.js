@@ -42,8 +42,12 @@ const csvOf = (rows) => new TextEncoder().encode(`\ufeff${valuesText(rows)}\r\n`
 
 // Opens the row that was chosen, and closes the table by that, unless what is open is not left.
 function hearRow(row, dialogOf) {
-  const open = () =>
-      openDoc(row.doc, {name: row.name, isSaved: row.isSaved, leave: () => dialogOf().close()});
+  const leave = () => dialogOf().close();
+  const open = () => {
+    if (row.doc) return openDoc(row.doc, {name: row.name, isSaved: row.isSaved, leave});
+    leave();
+    return row.convert();
+  };
   row.element.addEventListener('click', open);
   row.element.addEventListener('keydown', (event) => {
     if (event.key !== 'Enter') return;
@@ -97,7 +101,8 @@ class Table {
         make('thead', {}, make('tr', {}, ...headsOf(rows))),
         make('tbody', {}, ...rows.map((row) => row.element))
     );
-    for (const row of this.puzzles) hearRow(row, () => table.closest('dialog'));
+    for (const row of rows.filter((one) => one.isOpened))
+      hearRow(row, () => table.closest('dialog'));
     this.count = make('p', {id: 'several-count', role: 'status'});
     this.repair = make(
         'button',
@@ -116,7 +121,7 @@ class Table {
     this.element = make(
         'div',
         {class: 'rows'},
-        make('div', {class: 'ground'}, this.count, this.repair, csv),
+        make('div', {class: 'group'}, this.count, this.repair, csv),
         ...notes,
         make('div', {class: 'scrolls'}, table)
     );
@@ -157,7 +162,7 @@ class Table {
     this.repair.disabled = !this.puzzles.some((row) => row.isAmbiguous);
   }
 
-  // Hands all pictures to the user, with a report; answers whether that was stopped.
+  // Gives all pictures to the user, with a report; answers whether that was stopped.
   saveZip() {
     const {puzzles, rows} = this;
     const what = {
@@ -179,13 +184,15 @@ class Table {
 
 /**
  * Shows the units of several files in a table, up to where the user stops it; `imageDocs` is as
- * for docsOfUnit.
+ * for docsOfUnit, and `convert` opens the dialog for the file of an image that has no document.
  */
-export async function takeSeveral(units, imageDocs) {
+export async function takeSeveral(units, imageDocs, convert) {
   const progress = new Progress(phrase('import.files', {files: units.length}));
   const rows = [];
-  for await (const {name, doc = null, fault = ''} of puzzlesIn(units, progress, imageDocs))
-    rows.push(new Row(name, doc, fault && faultText(fault)));
+  for await (const {name, file, doc = null, fault = null} of puzzlesIn(units, progress, imageDocs))
+    rows.push(new Row(
+        name, doc, fault ? faultText(fault) : '', fault?.isImage ? () => convert(file) : null
+    ));
   progress.end();
   return showRows(
       rows,
@@ -222,6 +229,6 @@ export async function showRows(rows, notes = []) {
   table.end();
   await judged;
   if (way === 'library') await keepAll(puzzles);
-  if (way === 'book') tell('book', puzzles);
+  if (way === 'book') tell('book', rows);
   return true;
 }

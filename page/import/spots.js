@@ -11,7 +11,7 @@ export const ALIKE = 0xf8f8f8;
 export const keyOf = (data, at) => (data[at] << 16) | (data[at + 1] << 8) | data[at + 2];
 const tripleOfKey = (key) => [key >> 16, (key >> 8) & 255, key & 255];
 
-// What was worked out of an image, as long as the image is at hand: images do not change.
+// What was worked out of an image, as long as the image is open: images do not change.
 const workedOut = new WeakMap();
 export function once(image, what, work) {
   if (!workedOut.has(image)) workedOut.set(image, new Map());

@@ -49,24 +49,30 @@ function fieldsIn({crossing, filled, mean}, side, gap, margin) {
   return starts.slice(1).every((start) => crossing[start] <= mean * CROSSED) ? count : 0;
 }
 
+// What the grids of a sheet can be, the smallest first: the side of a field, the gap between fields
+// and the margin around all.
+function* gridsUpTo(most) {
+  for (let side = LEAST; side <= most; side++) {
+    for (let gap = 0; gap <= MOST_GAP; gap++) {
+      yield {side, gap, margin: 0};
+      if (gap) yield {side, gap, margin: gap};
+    }
+  }
+}
+
 /**
  * The grid of a sheet with square fields, the smallest that it can be: `{ columns, rows, gap,
  * margin }`; null where none is seen.
  */
 export function gridOf({width, height}, shown) {
   if (!shown.includes(1)) return null;
-  const [across, down] = [
+  const profiles = [
     profileOf(shown, width, height, (x, y) => y * width + x),
     profileOf(shown, height, width, (y, x) => y * width + x)
   ];
-  for (let side = LEAST; side <= Math.max(width, height) / 2; side++) {
-    for (let gap = 0; gap <= MOST_GAP; gap++) {
-      for (const margin of gap ? [0, gap] : [0]) {
-        const [columns, rows] =
-            [fieldsIn(across, side, gap, margin), fieldsIn(down, side, gap, margin)];
-        if (columns * rows > 1) return {columns, rows, gap, margin};
-      }
-    }
+  for (const {side, gap, margin} of gridsUpTo(Math.max(width, height) / 2)) {
+    const [columns, rows] = profiles.map((profile) => fieldsIn(profile, side, gap, margin));
+    if (columns * rows > 1) return {columns, rows, gap, margin};
   }
   return null;
 }

@@ -23,7 +23,7 @@ import {unitsIn} from './folders.js';
 import {kindOfFile} from './images.js';
 import {importImage, takesPalette} from './importing.js';
 import {takePalette} from './palettes.js';
-import {docByItself} from './proposing.js';
+import {docAmongSeveral} from './proposing.js';
 import {NOT_READ, aboutNon, docOfNon, isNonText, readPpmFile, readXmlFile} from './reading.js';
 import {takeSeveral} from './several.js';
 
@@ -141,7 +141,7 @@ export async function chooseFile() {
 
 // One file is opened, several come as a table.
 const takeAll = (files, handle = null) =>
-    (files.length > 1 ? takeSeveral(grouped(files, MOST_AT_ONCE), imageDocs) :
+    (files.length > 1 ? takeSeveral(grouped(files, MOST_AT_ONCE), imageDocs, takeFile) :
                         files.length === 1 && takeFile(files[0], handle));
 
 // A dialog that is open gives way to a file: it is left as by Cancel.
@@ -159,22 +159,21 @@ async function takeDropped(files, handle) {
   return takeAll(files, handle);
 }
 
-/** The document of an image file that opens by itself; null for a file that is no image. */
+/**
+ * The document of an image file that needs no dialog, none of a large one; null for a file that is
+ * no image.
+ */
 export async function imageDocs(file, bytes, ground) {
   const kind = kindOfFile(bytes);
   if (!IMAGES.has(kind)) return null;
   const image = await imageOfFile(file, bytes, kind);
-  const doc = docByItself(image, ground && (await ground(image, 255)));
+  const doc = docAmongSeveral(image, ground && (await ground(image, 255)));
   return doc ? [doc] : [];
 }
 
-/**
- * Hears files that are dropped or pasted anywhere. A text that is pasted is a puzzle where it
- * begins like one.
- */
-export function hearFiles() {
-  // Both are taken: where what is under the pointer changes, a browser asks by the first, and would
-  // refuse the drop behind it.
+// A file that is dragged over the page may be dropped. Both events are taken: where what is under
+// the pointer changes, a browser asks by the first, and would refuse the drop behind it.
+function hearDragging() {
   for (const name of /** @type {['dragenter', 'dragover']} */ (['dragenter', 'dragover']))
     addEventListener(name, (event) => {
       if (![...event.dataTransfer.types].includes('Files')) return;
@@ -185,46 +184,60 @@ export function hearFiles() {
   addEventListener('dragleave', (event) => {
     if (!event.relatedTarget) document.body.classList.remove('dropping');
   });
-  addEventListener('drop', async (event) => {
-    document.body.classList.remove('dropping');
-    const items = [...event.dataTransfer.items].filter((one) => one.kind === 'file');
-    if (!items.length) return;
-    event.preventDefault();  // else the browser would leave the page for the file
-    const folders = items.map((item) => item.webkitGetAsEntry?.() ?? null);
-    const files = items.map((item) => item.getAsFile());
-    if (folders.some((entry) => entry?.isDirectory)) {
-      const progress = new Progress(
-          phrase('import.opening', {name: folders.find((entry) => entry?.isDirectory).name})
-      );
-      const units = await unitsIn(folders, files, progress).catch(() => null);
-      progress.end();
-      if (!units) say(phrase('import.folderNotRead'), 'alarm');
-      if (!units || progress.isStopped) return;
-      await closeDialogs();
-      await takeSeveral(units, imageDocs);
-      return;
-    }
-    // the file itself is at hand already
-    const late = new Promise((go) => setTimeout(go, 1000, null));
-    const handle = await Promise.race([late, items[0].getAsFileSystemHandle?.().catch(() => null)]);
-    takeDropped(files, handle?.kind === 'file' ? handle : null);
-  });
-  addEventListener(
-      'paste',
-      (/** @type {any} */ event) => {
-        const file = [...event.clipboardData.files][0];
-        const text = event.clipboardData.getData('text/plain');
-        if (isTyping(event.target) && (!file || text)) return;  // a field takes a text itself
-        if (file)
-          takeDropped([file], null);
-        else if (/^\s*(P3\s|<\?xml|<puzzle|<svg[\s>]|nonocert|nonolemma)/.test(text) || /^width [0-9]/m.test(text))
-          takeDropped([new File([text], 'pasted')], null);
-        else if (text && !event.defaultPrevented)
-          say(phrase('import.couldNotOpened', {name: phrase('import.whatPasted'), fault: NOT_READ}),
-              'alarm');
-        else
-          return;
-        event.preventDefault();
-      }
-  );
+}
+
+async function takeFolders(folders, files) {
+  const {name} = folders.find((entry) => entry?.isDirectory);
+  const progress = new Progress(phrase('import.opening', {name}));
+  const units = await unitsIn(folders, files, progress).catch(() => null);
+  progress.end();
+  if (!units) say(phrase('import.folderNotRead'), 'alarm');
+  if (!units || progress.isStopped) return;
+  await closeDialogs();
+  await takeSeveral(units, imageDocs, takeFile);
+}
+
+async function hearDrop(event) {
+  document.body.classList.remove('dropping');
+  const items = [...event.dataTransfer.items].filter((one) => one.kind === 'file');
+  if (!items.length) return;
+  event.preventDefault();  // else the browser would leave the page for the file
+  const folders = items.map((item) => item.webkitGetAsEntry?.() ?? null);
+  const files = items.map((item) => item.getAsFile());
+  if (folders.some((entry) => entry?.isDirectory)) {
+    await takeFolders(folders, files);
+    return;
+  }
+  // the file itself is there already
+  const late = new Promise((go) => setTimeout(go, 1000, null));
+  const handle = await Promise.race([late, items[0].getAsFileSystemHandle?.().catch(() => null)]);
+  takeDropped(files, handle?.kind === 'file' ? handle : null);
+}
+
+// Whether a text begins like a puzzle.
+const isLikePuzzle = (text) =>
+    /^\s*(P3\s|<\?xml|<puzzle|<svg[\s>]|nonocert|nonolemma)/.test(text) ||
+    /^width [0-9]/m.test(text);
+
+function hearPaste(/** @type {any} */ event) {
+  const file = [...event.clipboardData.files][0];
+  const text = event.clipboardData.getData('text/plain');
+  if (isTyping(event.target) && (!file || text)) return;  // a field takes a text itself
+  if (file)
+    takeDropped([file], null);
+  else if (isLikePuzzle(text))
+    takeDropped([new File([text], 'pasted')], null);
+  else if (text && !event.defaultPrevented)
+    say(phrase('import.couldNotOpened', {name: phrase('import.whatPasted'), fault: NOT_READ}),
+        'alarm');
+  else
+    return;
+  event.preventDefault();
+}
+
+/** Hears files that are dropped or pasted anywhere, and puzzles that are pasted as texts. */
+export function hearFiles() {
+  hearDragging();
+  addEventListener('drop', hearDrop);
+  addEventListener('paste', hearPaste);
 }

@@ -1,5 +1,5 @@
-// The document at hand in the library: after each stroke it is kept with its strokes, under a name
-// that this tab alone has. What could not be kept is told.
+// The open document in the library: after each stroke it is kept with its strokes, under a name
+// that this tab alone has. What could not be kept is reported.
 
 import {say} from '../base/elements.js';
 import {tell} from '../base/events.js';
@@ -8,7 +8,7 @@ import {docOf, sameDoc} from '../document/document.js';
 import {FileFault} from '../document/limits.js';
 import {bench} from '../engine/bench.js';
 import {phrase} from '../texts/phrase.js';
-import {gradeAtHand} from '../view/grading.js';
+import {presentGrade} from '../view/grading.js';
 import {Keeper} from './keeper.js';
 import {newId, recordOf} from './records.js';
 import {claim, openShelf, reasonOf} from './shelf.js';
@@ -23,7 +23,7 @@ export const keep = {
   when: 0,
   isNamed: false,
   isKept: false,
-  told: null,
+  withdraw: null,  // takes back what was said of a failure
   isAsked: false,
   makeRoom: null,
   names: null
@@ -68,7 +68,7 @@ keep.drop = async (id) => {
   return free && keep.keeper.drop(id).finally(free);
 };
 
-/** Does something to the library; what its storage refuses is told. */
+/** Does something to the library; what its storage refuses is reported. */
 keep.tried = async (act) => {
   try {
     await act();
@@ -81,7 +81,7 @@ keep.tried = async (act) => {
 };
 
 /**
- * Gives the picture at hand, if it is that of an id, a name that its user chose: no title takes
+ * Gives the open picture, if it is that of an id, a name that its user chose: no title takes
  * its place.
  */
 keep.named = (name, id = keep.id) => {
@@ -104,12 +104,12 @@ keep.said = ({kind, why, record}) => {
     keep.isKept = isKept;
     tell('kept', isKept);
     if (isKept) {
-      keep.told?.();
-      keep.told = null;
+      keep.withdraw?.();
+      keep.withdraw = null;
     }
   }
-  if (isKept || keep.told) return;
-  keep.told =
+  if (isKept || keep.withdraw) return;
+  keep.withdraw =
       say(phrase('library.yourWorkTabAlone', {why: REASONS[why]}),
           'alarm',
           why === 'full' ? {name: opening(phrase('start.makeRoom')), run: () => keep.makeRoom?.()} :
@@ -154,7 +154,7 @@ keep.changed = () => {
   return keep.now({mayRest: true});
 };
 
-/** The picture at hand, where it belongs to the library, as a record has it; else null. */
+/** The open picture, where it belongs to the library, as a record has it; else null. */
 keep.atHand = () =>
     (keep.id && bench.term === keep.term && !keep.untouched ?
          {id: keep.id, name: bench.name, doc: docOf(bench.state)} :
@@ -185,7 +185,7 @@ keep.now = ({mayRest = false} = {}) => {
   }
   const made = () => ({
     record: {...recordOf(bench, id, keep.when), isNamed: keep.isNamed},
-    facts: {verdict: bench.state.verdict.word, grade: gradeAtHand()?.word ?? null}
+    facts: {verdict: bench.state.verdict.word, grade: presentGrade()?.word ?? null}
   });
   return keep.keeper.note(() => (keep.id === id && bench.term === term ? made() : null), mayRest);
 };

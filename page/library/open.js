@@ -1,4 +1,4 @@
-// Opens documents in place of the one at hand, or beside it for their clues alone, and tells what
+// Opens documents in place of the open one, or beside it for their clues alone, and tells what
 // is refused.
 
 import {hushOther, say} from '../base/elements.js';
@@ -34,7 +34,7 @@ function inTurn(what, open) {
  * Opens a document in place of the present one, and keeps it under a name of its own. `id` is that
  * of a record of the library, `strokes` are as the bench has them; `isNamed` tells that its user
  * chose the name; `leave` is called once the present one may go. Answers whether it is open; what
- * is refused is told.
+ * is refused is reported.
  */
 export const openDoc = (doc, how) => inTurn(doc, () => openNow(doc, how));
 
@@ -80,7 +80,7 @@ async function openNow(doc, {
 /**
  * What `take` makes of puzzles that are not open, each `{ doc, name, .. }`, as an engine has them:
  * with the document that it reports, and its `clues`. One worker opens them, one after the other.
- * Null, told, where one does not open, or where it is stopped: then nothing may leave the page.
+ * Null, reported, where one does not open, or where it is stopped: then nothing may leave the page.
  */
 export async function withClues(
     puzzles, start = startEngine, progress = UNSEEN, take = (puzzle) => puzzle

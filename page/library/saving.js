@@ -2,7 +2,7 @@
 // has one, else as a download. A new document is saved as Web Paint-by-Number's XML, which holds
 // all of it; what was opened as PPM or .non is saved as that.
 
-import {$, choiceOf, fieldOf, make, say} from '../base/elements.js';
+import {$, choiceOf, fieldOf, make, say, write} from '../base/elements.js';
 import {behindFrame, on} from '../base/events.js';
 import {bareName} from '../base/words.js';
 import {docOf, eightBitDoc, isLocked, unlocked} from '../document/document.js';
@@ -36,7 +36,7 @@ export const SAVE_TYPES = {
 };
 const DOCUMENT_FORMS = ['xml', 'ppm', 'non'];
 
-/** Hands a text or blob to the user as a download. */
+/** Gives a text or blob to the user as a download. */
 export function download(content, file, type) {
   const link = make('a', {
     href: URL.createObjectURL(content instanceof Blob ? content : new Blob([content], {type})),
@@ -66,7 +66,7 @@ const titled = (doc, name) =>
 
 /**
  * The text of what is seen in one of the forms that hold it, for others without what is locked and
- * without colours that no cell has; or null, told, where it has none.
+ * without colours that no cell has; or null, reported, where it has none.
  */
 async function textAs(form, {state, term, name}, forOthers = false) {
   const {doc, clues} = forOthers ? withoutUnused(unlocked(docOf(state)), state.clues) :
@@ -129,7 +129,7 @@ export const save = () => asSeen(async (seen) => {
 });
 
 /**
- * Notes that a file has what was seen, and tells it; what the file has no place for is told, and
+ * Notes that a file has what was seen, and says so; what the file has no place for is reported, and
  * is not saved by that.
  */
 function saved({state, term}, file, form, {more = '', forOthers = false} = {}) {
@@ -228,7 +228,7 @@ export function showFileName() {
   const where = isSaved ? '' :
       keep.isKept       ? phrase('library.libraryNotFile') :
                           phrase('library.notKept');
-  $('title').textContent = isOpen ? bench.name + where : '';
+  write($('title'), isOpen ? bench.name + where : '');
   document.title = isOpen ? `${isSaved ? '' : '• '}${bench.name} – nonobench` : 'nonobench';
 }
 

@@ -113,25 +113,25 @@ async function indexedShelf(home, blocked, moved) {
   const write = (act) => connection.write(act);
   return whole({
     lasts: true,
-    get: (key) => read((kept) => settledRequest(kept.get(key))),
-    change: (keys, f) => write((kept) => {
-      const asked = keys.map((key) => kept.get(key));
+    get: (key) => read((store) => settledRequest(store.get(key))),
+    change: (keys, f) => write((store) => {
+      const asked = keys.map((key) => store.get(key));
       const put = () => {
-        for (const [key, value] of f(asked.map((one) => one.result))) kept.put(value, key);
+        for (const [key, value] of f(asked.map((one) => one.result))) store.put(value, key);
       };
       if (asked.length)
         asked.at(-1).onsuccess = put;  // the others have succeeded before it
       else
         put();
     }),
-    drop: (...keys) => write((kept) => {
-      for (const key of keys) kept.delete(key);
+    drop: (...keys) => write((store) => {
+      for (const key of keys) store.delete(key);
     }),
-    keys: () => read((kept) => settledRequest(kept.getAllKeys())),
-    listedAtOnce: (prefix) => read(async (kept) => {
+    keys: () => read((store) => settledRequest(store.getAllKeys())),
+    listedAtOnce: (prefix) => read(async (store) => {
       const range = IDBKeyRange.bound(prefix, `${prefix}\uffff`);
       return listOf(...await Promise.all(
-          [kept.getAllKeys(), kept.getAllKeys(range), kept.getAll(range)].map(settledRequest)
+          [store.getAllKeys(), store.getAllKeys(range), store.getAll(range)].map(settledRequest)
       ));
     }),
   });

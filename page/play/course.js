@@ -1,4 +1,4 @@
-// The solving path of the picture at hand, in the panel: what a solver has after shares of it, with
+// The solving path of the open picture, in the panel: what a solver has after shares of it, with
 // a slider, when the selection is half known, and the difficulty curve. While its fold is open, the
 // second worker walks the path behind strokes.
 
@@ -9,14 +9,15 @@ import {sameBenchPart} from '../document/document.js';
 import {sheet} from '../draw/sheet.js';
 import {drawSmall} from '../draw/small.js';
 import {bench} from '../engine/bench.js';
+import {shareOf, stepHalfKnown} from '../repair/later.js';
 import {phrase} from '../texts/phrase.js';
 import {addAction} from '../view/actions.js';
 import {canEase, easeAt} from '../view/grading.js';
 import {selectedPlaces} from '../view/select.js';
 import {searches, secondsChosen} from '../view/verdict.js';
 import {cellsLeft, cliffsOf, drawCurve, stepAcross} from './curve.js';
-import {SHARES, shareAt, stepAt, stepHalfKnown} from './film.js';
-import {cellsOf} from './looks.js';
+import {SHARES, stepAt} from './film.js';
+import {cellsOf} from './lines.js';
 import {pathOf} from './path.js';
 import {stepText} from './telling.js';
 
@@ -76,11 +77,11 @@ function makeCourse() {
       make(
           'div', {id: 'cliffs', class: 'group', role: 'group', 'aria-label': phrase('play.cliffs')}
       ),
-      make('p', {id: 'cliff-said', role: 'status'}),
       buttonOf('cliff-ease', phrase('play.softenHere'), () => easeAt(placesOf(course.cliff)), {
         disabled: true,
         title: phrase('play.softenHint')
-      })
+      }),
+      make('p', {id: 'cliff-said', role: 'status'})
   );
   fold.querySelector('#curve').addEventListener('click', pressCurve);
   for (const button of fold.querySelectorAll('[data-share]'))
@@ -110,7 +111,7 @@ function showStep(at, cliff = null) {
   $('film-said').textContent = phrase('play.filmSaid', {
     at: course.at,
     count: walk.steps.length,
-    share: shareAt(walk, course.at),
+    share: shareOf(walk.steps, course.at),
     known,
     cells: of.rows * of.columns
   });
@@ -174,10 +175,11 @@ function pressCurve(event) {
 function showHalf() {
   if (!isOpen() || !course.walk || !bench.state) return;
   const places = isOfThis() ? selectedPlaces() : null;
-  const at = places?.size ? stepHalfKnown(course.walk, places) : null;
+  const {walk, of} = course;
+  const at = places?.size ? stepHalfKnown(walk.steps, places, of.givens) : null;
   $('film-half').textContent = at === null ? phrase('play.selectPart') :
       at === Infinity                      ? phrase('play.halfOpen') :
-                        phrase('play.halfKnown', {share: shareAt(course.walk, at)});
+                        phrase('play.halfKnown', {share: shareOf(walk.steps, at)});
 }
 
 function showCourse(share) {
@@ -216,7 +218,7 @@ async function walk() {
   const found = await pathOf(state, null, {name: '', seconds});
   if (!hasSamePath(state, bench.state) || (!found && searches.running)) return schedule();
   if (!found) return;  // the engine failed: another stroke tries again
-  const share = course.walk ? shareAt(course.walk, course.at) : 100;
+  const share = course.walk ? shareOf(course.walk.steps, course.at) : 100;
   Object.assign(course, {walk: found, of: state});
   showCourse(share);
 }

@@ -55,7 +55,7 @@ export function drawCurve(svg, left, cliffs, at) {
   const line = left.map((count, step) => `${step ? 'L' : 'M'}${x(step)} ${y(count)}`).join('');
   svg.setAttribute('viewBox', `0 0 ${WIDE} ${HIGH}`);
   svg.replaceChildren(
-      svgPart('path', {class: 'curve', d: line}),
+      svgPart('path', {d: line}),
       svgPart('path', {class: 'now', d: `M${x(at)} ${EDGE}V${HIGH - EDGE}`}),
       ...cliffs.map(
           (cliff) => svgPart(

@@ -19,7 +19,7 @@ export const wrongMarks = () => new Set(play.marks.flatMap(
     )
 ));
 
-// The step from the marks at hand, without those cells that are known already; null where none
+// The step from these marks, without those cells that are known already; null where none
 // does, undefined where the engine does not answer or there are other marks by then.
 async function stepNow() {
   const {state, hinted} = play;
@@ -34,17 +34,17 @@ async function stepNow() {
   return isSame ? step?.found : undefined;
 }
 
-// Whether a hint at hand is told to its end: who does not mark background goes on from there.
-const isThrough = ({step, told}) => step && isBackground(step) && told === HOWS.length - 1;
+// Whether a hint is given to its end: who does not mark background goes on from there.
+const isThrough = ({step, level}) => step && isBackground(step) && level === HOWS.length - 1;
 
-// Keeps the hint of the marks at hand; answers whether there is one.
+// Keeps the hint for these marks; answers whether there is one.
 async function hintNow(isNext) {
   const key = play.marks.flat().join('');
   const {hint} = play;
   if (hint?.key === key && !(isNext && isThrough(hint))) return true;
   const step = await stepNow();
   if (step === undefined) return false;
-  play.hint = {key, told: -1, step};
+  play.hint = {key, level: -1, step};
   return true;
 }
 
@@ -59,7 +59,7 @@ const wrongText = () => {
 
 /**
  * The next part of a hint: its text, and what of it is shown; null where there are other marks by
- * then. The same marks get more each time, and background that was told counts as known.
+ * then. The same marks get more each time, and background that it named counts as known.
  */
 export async function nextHint() {
   if (wrongText()) return {text: wrongText(), shown: null};
@@ -67,8 +67,8 @@ export async function nextHint() {
   const {hint} = play;
   const {step} = hint;
   if (!step) return {text: leftText(), shown: null};
-  hint.told = Math.min(hint.told + 1, HOWS.length - 1);
-  const how = HOWS[hint.told];
+  hint.level = Math.min(hint.level + 1, HOWS.length - 1);
+  const how = HOWS[hint.level];
   const cells = step.falls.map(({index}) => index);
   if (how !== 'line' && isBackground(step)) cells.forEach((index) => play.hinted.add(index));
   return {
@@ -76,13 +76,13 @@ export async function nextHint() {
     shown: {
       line: step.line,
       cells: how === 'line' ? [] : cells,
-      premises: how === 'why' ? step.premises().map(({index}) => index) : []
+      premises: how === 'why' ? step.needs.map(({index}) => index) : []
     }
   };
 }
 
 /**
- * The cells that the hint at hand settles, with its text; without cells where there is nothing to
+ * The cells that the hint settles, with its text; without cells where there is nothing to
  * do, and null where there are other marks by then.
  */
 export async function hintedCells() {

@@ -5,12 +5,11 @@
 import {phrase} from '../texts/phrase.js';
 import {searches, secondsChosen} from '../view/verdict.js';
 import {marksOf} from './crossing.js';
-import {reasoned} from './looks.js';
 
 /**
- * The path: steps with what is known of each cell after so many of them. A step is a look as
- * looks.js has it, `{ line, round, falls: [{ index, letter }], stands, premises() }`; of a guess
- * the line is null.
+ * The path: steps with what is known of each cell after so many of them. A step is a look of the
+ * engine, `{ line, round, falls: [{ index, letter }], stands, needs: [{ index, letters }] }`; of a
+ * guess the line is null.
  */
 export class Walk {
   constructor(state, steps = []) {
@@ -35,18 +34,9 @@ export class Walk {
   get hardest() {
     const guess = this.steps.findIndex(({line}) => line === null);
     if (guess >= 0) return guess + 1;
-    const steps = [...this.steps.keys()].filter(
-        (at) => this.steps[at].falls.length && !this.steps[at].stands
-    );
-    const known = new Map(steps.map((at) => [at, this.steps[at].known]));
-    steps.sort((one, other) => known.get(other) - known.get(one) || one - other);
-    let [hardest, most] = [0, -1];
-    for (const at of steps) {
-      if (known.get(at) < most) break;  // it needs no more than is known
-      const needs = this.steps[at].premises(Math.max(0, most))?.length ?? -1;
-      if (needs > most || (needs === most && at < hardest)) [hardest, most] = [at, needs];
-    }
-    return hardest + 1;
+    const counts =
+        this.steps.map(({falls, stands, needs}) => (falls.length && !stands ? needs.length : -1));
+    return counts.indexOf(Math.max(...counts)) + 1;
   }
 
   /**
@@ -61,13 +51,10 @@ export class Walk {
 
 // Steps of the path of a copy's picture with its givens and guesses, without the cells that are
 // known already.
-async function looksOf(copy, state, {known, guesses}) {
+async function looksOf(copy, known) {
   const [{looks, open}] = await copy.say('path');
-  const letters = marksOf(state).flat();
-  for (const {index, letter} of guesses) letters[index] = letter;
-  const fresh =
+  const steps =
       looks.map((look) => ({...look, falls: look.falls.filter(({index}) => !known.has(index))}));
-  const steps = reasoned(state, letters, fresh);
   return {open, steps: known.size ? steps.filter(({falls}) => falls.length) : steps};
 }
 
@@ -82,21 +69,19 @@ async function guessed(copy, {picture, columns}) {
     round: -1,
     falls: [{index: (row - 1) * columns + column - 1, letter: picture[row - 1][column - 1]}],
     stands: false,
-    known: 0,
-    premises: () => []
+    needs: []
   };
 }
 
 /**
- * The path through a state's puzzle; `told` hears it as far as it is known. Null where nothing is
+ * The path through a state's puzzle; `report` hears it as far as it is known. Null where nothing is
  * known of it. A search without a name gives way to all others.
  */
 export async function pathOf(
-    state, told = null, {name = phrase('play.walkThrough'), seconds = secondsChosen()} = {}
+    state, report = null, {name = phrase('play.walkThrough'), seconds = secondsChosen()} = {}
 ) {
   return searches.job(name, seconds, async (copy) => {
     const known = new Set();
-    const guesses = [];
     let walk = new Walk(state);
     const add = (steps) => {
       for (const {falls} of steps)
@@ -104,14 +89,12 @@ export async function pathOf(
       walk = copy.found = new Walk(state, [...walk.steps, ...steps]);
     };
     for (;;) {
-      const {open, steps} = await looksOf(copy, state, {known, guesses});
+      const {open, steps} = await looksOf(copy, known);
       add(steps);
       walk.isWhole = open === 0 || state.verdict.word !== 'unique';
-      told?.(walk);
+      report?.(walk);
       if (walk.isWhole) return walk;
-      const guess = await guessed(copy, state);
-      guesses.push(...guess.falls);
-      add([guess]);
+      add([await guessed(copy, state)]);
     }
   });
 }

@@ -17,7 +17,7 @@ import {phrase} from '../texts/phrase.js';
 import {addAction, makeMenu, runAction} from '../view/actions.js';
 import {openDialog} from '../view/dialogs.js';
 import {dress, inkName} from '../view/dress.js';
-import {gradeAtHand} from '../view/grading.js';
+import {presentGrade} from '../view/grading.js';
 import {selection} from '../view/select.js';
 import {asSeen} from '../view/tools.js';
 import {searches} from '../view/verdict.js';
@@ -54,14 +54,9 @@ const goesOn = ({picture, givens, colours}) => play.past.length > 0 &&
     play.state.picture === picture && play.state.givens === givens &&
     play.state.colours === colours;
 
-/**
- * Shows the puzzle to be solved. Where it stands alone, there is no way to the picture but the one
- * that the player paints.
- */
-export async function openPlay({isAlone = false} = {}) {
-  if ((selection.rows || bench.queue.length) && !(await asSeen())) return;
-  $('play-room')?.remove();
-  const {state} = bench;
+// Gets the marks of the last time where it is the same puzzle, else new ones. Answers whether some
+// were kept.
+function preparePlay(state) {
   const isGoing = goesOn(state);
   const kept = isGoing ? play.marks : keptMarks(state);
   if (!isGoing)
@@ -75,27 +70,51 @@ export async function openPlay({isAlone = false} = {}) {
       hinted: new Set()
     });
   Object.assign(play, {state, wrong: new Set(), drag: null, shown: null, heat: null, hint: null});
-  searches.stop();
-  const dialog = make('dialog', {id: 'play-room', 'aria-label': phrase('play.play')});
-  dialog.append(
+  return Boolean(kept);
+}
+
+function playDialog({about}) {
+  const dialog = make(
+      'dialog',
+      {id: 'play-room', 'aria-label': phrase('play.play')},
       playBar(),
       walkBar(),
-      make('p', {id: 'play-said', role: 'status'}),
+      playLine(),
       playBoard(),
       solvedPart(),
       make(
           'div', {id: 'play-palette', role: 'radiogroup', 'aria-label': phrase('view.colourLabel')}
       ),
-      make(
-          'p',
-          {id: 'play-credit', class: 'faint', hidden: !(state.about.title || state.about.author)}
-      )
+      make('p', {id: 'play-credit', class: 'faint', hidden: !(about.title || about.author)})
   );
   dialog.addEventListener('close', () => {
     endWalk();
     dialog.remove();
   });
   dialog.addEventListener('keydown', playKey);
+  return dialog;
+}
+
+// What a player hears first: whether there are marks, how many solutions, and what is given.
+function greeting({verdict: {word}, givens}, hasMarks) {
+  const solutions = word === 'unique' ? phrase('play.oneSolutionGoodLuck') :
+      word === 'ambiguous'            ? phrase('play.puzzleMoreOneSolution') :
+                                        phrase('play.notKnownWhetherPuzzle');
+  return `${hasMarks ? phrase('play.yourMarksYouLeft') : ''}${solutions}${
+      givens.size ? phrase('play.cellsDiamondGiven') : ''}`;
+}
+
+/**
+ * Shows the puzzle to be solved. Where it stands alone, there is no way to the picture but the one
+ * that the player paints.
+ */
+export async function openPlay({isAlone = false} = {}) {
+  if ((selection.rows || bench.queue.length) && !(await asSeen())) return;
+  $('play-room')?.remove();
+  const {state} = bench;
+  const hasMarks = preparePlay(state);
+  searches.stop();
+  const dialog = playDialog(state);
   if (isAlone) keepOpen(dialog);
   $('dialogs').append(dialog);
   dialog.showModal();
@@ -105,12 +124,7 @@ export async function openPlay({isAlone = false} = {}) {
   new ResizeObserver(() => refitPlay()).observe(dialog);
   $('play-field').focus({preventScroll: true});
   $('play-board').scrollTo(0, 0);
-  const {word} = state.verdict;
-  const told = word === 'unique' ? phrase('play.oneSolutionGoodLuck') :
-      word === 'ambiguous'       ? phrase('play.puzzleMoreOneSolution') :
-                                   phrase('play.notKnownWhetherPuzzle');
-  playSays(`${kept ? phrase('play.yourMarksYouLeft') : ''}${told}${
-      state.givens.size ? phrase('play.cellsDiamondGiven') : ''}`);
+  playSays(greeting(state, hasMarks));
 }
 
 // Where the player stands alone nothing closes it: neither Escape nor a phone's way back.
@@ -123,14 +137,26 @@ function keepOpen(dialog) {
   });
 }
 
-export const playSays = (text) => {
+/** Says something above the board; what is a hint can be done by a button behind it. */
+export const playSays = (text, isHint = false) => {
   $('play-said').textContent = text;
+  $('play-do').hidden = !isHint;
 };
+
+function playLine() {
+  const title = phrase('play.marksWhatHint');
+  return make(
+      'div',
+      {id: 'play-line'},
+      make('p', {id: 'play-said', role: 'status'}),
+      buttonOf('play-do', phrase('play.doIt'), doHint, {title, hidden: true})
+  );
+}
 
 // The header: the way back, what the puzzle is, and three icons; the last opens a menu of the rest.
 function playBar() {
   const {state} = play;
-  const grade = gradeAtHand();
+  const grade = presentGrade();
   const icon = (id, name, run, as) => withIcon(buttonOf(id, '', run), as, name);
   const list = make('div', {
     id: 'play-menu',
@@ -157,8 +183,6 @@ function playBar() {
   list.append(...items);
   const hint = icon('play-hint', phrase('play.hint'), hintPlay, 'hint');
   hint.title = phrase('play.lineTellsMoreAgain');
-  const does = icon('play-do', phrase('play.doIt'), doHint, 'tick');
-  does.title = phrase('play.marksWhatHint');
   const more = withIcon(buttonOf('play-more', '', () => {}), 'more', phrase('view.more'));
   makeMenu(more, list, () => items);
   return make(
@@ -169,7 +193,6 @@ function playBar() {
       make('span', {id: 'play-grade', class: 'faint'}, grade ? gradeName(grade.word) : ''),
       icon('play-undo', phrase('view.undo'), () => playTurn('past', 'future'), 'undo'),
       hint,
-      does,
       more,
       list
   );
@@ -306,7 +329,7 @@ function playTurn(from, to) {
 
 export const playColumn = (col) => play.marks.map((row) => row[col]);
 
-export function afterPlay() {
+function afterPlay() {
   const {clues} = play.state;
   const solved = clues.rows.every((blocks, row) => isMet(blocks, play.marks[row])) &&
       clues.columns.every((blocks, col) => isMet(blocks, playColumn(col)));
@@ -350,7 +373,7 @@ async function hintPlay() {
   if (!hint || !$('play-field')) return;
   play.shown = hint.shown;
   drawPlay();
-  playSays(hint.text);
+  playSays(hint.text, hint.shown !== null);
 }
 
 // Marks what the hint at hand tells, as one stroke.
@@ -358,7 +381,7 @@ async function doHint() {
   const hint = await hintedCells();
   if (!hint || !$('play-field')) return;
   keepPlay(hint.cells.flatMap(({index, letter}) => markPlay([index], letter)));
-  if (!play.isSolved) playSays(hint.text);
+  if (!play.isSolved) playSays(hint.text, hint.cells.length > 0);
 }
 
 function clearPlay() {

@@ -6,7 +6,15 @@ import {clamp} from '../base/words.js';
 import {eightBits} from '../document/colours.js';
 import {LETTERS} from '../document/limits.js';
 import {coloursTooNear} from '../document/near.js';
-import {coloursOf, drawClue, drawGiven, drawRules, edges, linesOn, wholeFrame} from '../draw/board.js';
+import {
+  coloursOf,
+  drawClue,
+  drawGiven,
+  drawRules,
+  edges,
+  linesOn,
+  wholeFrame
+} from '../draw/board.js';
 import {Sprites} from '../draw/sprites.js';
 import {CanvasSurface} from '../draw/surface.js';
 import {phrase} from '../texts/phrase.js';
@@ -139,8 +147,8 @@ function playLook() {
     least: 6,
     weight: 600,
     blank,
-    alarm: '#c8321e',
-    here: '#14609c',
+    alarm: ink('alarm'),
+    here: ink('accent'),
   };
 }
 
@@ -236,7 +244,7 @@ function drawPlayField() {
     });
   });
   const {pen} = surface;
-  drawShown(pen, look.ink);
+  drawShown(pen, look);
   if (isPlain && !pen.canvas.matches(':focus-visible')) return;
   pen.strokeStyle = look.here;
   pen.lineWidth = 2.5;
@@ -277,11 +285,11 @@ const playClueText = (blocks) =>
     blocks.map((block) => `${block.length} ${inkName(play.state, block.letter)}`).join(', ') ||
     phrase('view.emptyClue');
 
-/** Takes the cursor to a cell; `told` says it to those who hear the page. */
-export function movePlay(at, told = false) {
+/** Takes the cursor to a cell; `isSaid`: it is said to those who hear the page. */
+export function movePlay(at, isSaid = false) {
   play.at = at;
   drawPlayField();
-  if (!told) return;
+  if (!isSaid) return;
   const mark = play.marks[at.row][at.col];
   const {clues} = play.state;
   const place = phrase('view.rowColumn', {

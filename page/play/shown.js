@@ -4,15 +4,13 @@
 import {drawTwice} from '../draw/marks.js';
 import {play} from './play.js';
 
-const NEW = '#d9730d';
-const USED = '#14609c';
 const GUESS = 'rgb(160 40 110 / 45%)';
 
-/** The tint of a round: from light to dark; what needs a guess (-1) apart. */
+/** The tint of a round: the later, the stronger; what needs a guess (-1) apart. */
 export const heatOf = (round, most) =>
     (round < 0 ? GUESS :
                  `hsl(24 90% 48% / ${
-                     Math.round(12 + (68 * Math.max(0, round - 1)) / Math.max(1, most - 1))}%)`);
+                     Math.round(10 + (45 * Math.max(0, round - 1)) / Math.max(1, most - 1))}%)`);
 
 function ring(pen, index, ink, breadth, dash) {
   const {side, state} = play;
@@ -50,22 +48,22 @@ function drawHeat(pen, rounds, ink) {
 
 /**
  * Draws what `play.shown` has: `line` (rows first, or null), `cells`, `premises`; and `play.heat`,
- * the round of each cell, with its number in an ink.
+ * the round of each cell, with its number, in the inks of a look.
  */
-export function drawShown(pen, ink) {
+export function drawShown(pen, {ink, alarm, here}) {
   const {shown, heat, side, state} = play;
   if (heat) drawHeat(pen, heat, ink);
   if (heat || !shown) return;
   if (shown.line !== null) {
     const across = shown.line < state.rows;
     const at = across ? shown.line : shown.line - state.rows;
-    pen.strokeStyle = NEW;
+    pen.strokeStyle = alarm;
     pen.lineWidth = 3;
     if (across)
       pen.strokeRect(1, at * side, state.columns * side - 1, side);
     else
       pen.strokeRect(at * side, 1, side, state.rows * side - 1);
   }
-  for (const index of shown.premises) ring(pen, index, USED, 2, [3, 2]);
-  for (const index of shown.cells) ring(pen, index, NEW, 2.5, []);
+  for (const index of shown.premises) ring(pen, index, here, 2, [3, 2]);
+  for (const index of shown.cells) ring(pen, index, alarm, 2.5, []);
 }

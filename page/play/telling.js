@@ -8,7 +8,7 @@ import {phrase} from '../texts/phrase.js';
 import {inkName} from '../view/dress.js';
 import {placeText} from '../view/proposals.js';
 import {isBackground} from './hinting.js';
-import {blocksOf, cellsOf} from './looks.js';
+import {blocksOf, cellsOf, narrowedBefore} from './lines.js';
 
 const isRow = ({rows}, line) => line < rows;
 const nameOfLine = (state, line) =>
@@ -68,7 +68,7 @@ function standing(state, line) {
 
 // ---- reasons
 
-// Of a step without premises.
+// Of a step that needs its clue alone.
 function clueReason(state, {line, falls}) {
   const blocks = standing(state, line);
   if (blocks.length && falls.length === cellsOf(state, line).length)
@@ -82,8 +82,9 @@ function clueReason(state, {line, falls}) {
 
 // What is known of the cells that a step needs: whole blocks by their names, the others by their
 // colours.
-function partsOf(state, {line}, premises) {
-  const known = premises.filter(({letters}) => letters.length === 1);
+function partsOf(state, step) {
+  const {line, needs} = step;
+  const known = needs.filter(({letters}) => letters.length === 1);
   const isKnown = new Set(known.map(({index}) => index));
   const whole =
       standing(state, line).filter(({indices}) => indices.every((index) => isKnown.has(index)));
@@ -94,7 +95,10 @@ function partsOf(state, {line}, premises) {
     ...byLetter(others.map(({index, letters}) => ({index, letter: letters}))
     ).map(([letter, indices]) => cellsAre(state, line, letter, indices))
   ];
-  const excluded = premises.filter(({letters}) => letters.length > 1).map(({index}) => index);
+  const excluded = [
+    ...needs.filter(({letters}) => letters.length > 1).map(({index}) => index),
+    ...narrowedBefore(state, step)
+  ].sort((one, other) => one - other);
   if (excluded.length)
     parts.push(phrase('play.excludedIn', {places: placesText(state, line, excluded)}));
   return parts;
@@ -106,10 +110,30 @@ const joined = (parts) =>
          parts.join('') :
          phrase('play.lastOf', {others: parts.slice(0, -1).join(', '), last: parts.at(-1)}));
 
+// Whether a step begins at an edge: it goes on with the first or the last block, of which a cell is
+// known, and needs no cell behind it.
+function isFromEdge(state, {line, falls, needs}) {
+  const isKnown = new Set(
+      needs.filter(({letters}) => letters.length === 1 && letters !== '.').map(({index}) => index)
+  );
+  const cells = cellsOf(state, line);
+  const blocks = standing(state, line);
+  const colours = falls.filter(({letter}) => letter !== '.').map(({index}) => index);
+  return [[blocks.at(0), cells], [blocks.at(-1), [...cells].reverse()]].some(([block, inTurn]) => {
+    const {indices} = block ?? {indices: []};
+    const end = Math.max(...indices.map((index) => inTurn.indexOf(index)));
+    return indices.some((index) => isKnown.has(index)) && colours.length > 0 &&
+        colours.every((index) => indices.includes(index)) &&
+        needs.every(({index}) => inTurn.indexOf(index) <= end);
+  });
+}
+
 function reasonOf(state, step) {
-  const premises = step.premises();
-  if (!premises.length) return clueReason(state, step);
-  return phrase('play.since', {reasons: joined(partsOf(state, step, premises))});
+  const parts = partsOf(state, step);
+  if (!parts.length) return clueReason(state, step);
+  const reasons = joined(parts);
+  return isFromEdge(state, step) ? phrase('play.fromEdge', {reasons}) :
+                                   phrase('play.since', {reasons});
 }
 
 /** What a step settles, in words. */

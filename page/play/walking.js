@@ -19,7 +19,7 @@ const KEY_TINTS = 8;
 const walking = {
   walk: null,
   at: 0,
-  told: '',
+  text: '',
   isKnown: false,
   timer: 0,
   marks: null,
@@ -106,9 +106,8 @@ function goTo(at) {
       Array.from({length: rows}, (_, row) => letters.slice(row * columns, (row + 1) * columns));
   const step = walking.at > 0 ? walk.steps[walking.at - 1] : null;
   const places = (cells) => cells.map(({index}) => index);
-  play.shown =
-      step && {line: step.line, cells: places(step.falls), premises: places(step.premises())};
-  walking.told = step ? `: ${stepText(play.state, step)}` : phrase('play.emptyPuzzle');
+  play.shown = step && {line: step.line, cells: places(step.falls), premises: places(step.needs)};
+  walking.text = step ? `: ${stepText(play.state, step)}` : phrase('play.emptyPuzzle');
   showLength();
   if (walking.isKnown && walking.at === walk.steps.length) stopPlaying();
   drawPlay();
@@ -116,16 +115,18 @@ function goTo(at) {
 
 // Where the path stands, and how long it is as far as it is known.
 function showLength() {
-  const {walk, at, told} = walking;
+  const {walk, at, text} = walking;
   $('walk-at').max = walk.steps.length;
   $('walk-at').value = at;
   $('walk-back').disabled = at === 0;
   $('walk-on').disabled = at === walk.steps.length;
   $('walk-hardest').disabled = !walking.isKnown;
-  playSays(phrase(
-      'play.stepOf',
-      {at, count: walk.steps.length, isWhole: walking.isKnown ? '' : phrase('play.soFar'), told}
-  ));
+  playSays(phrase('play.stepOf', {
+    at,
+    count: walk.steps.length,
+    isWhole: walking.isKnown ? '' : phrase('play.soFar'),
+    told: text
+  }));
 }
 
 function turnPlaying() {

@@ -1,5 +1,6 @@
-// A grade as the goal: few cells to repaint, or one to give, until line logic solves the puzzle and
-// the word for how hard that is is the wanted one. The engine grades each candidate.
+// A goal of which the engine says how far a candidate is: few cells to repaint, or one to give,
+// until line logic solves the puzzle and it is met. Such as a grade: the word for how hard that is
+// is the wanted one.
 
 import {Candidate} from './board.js';
 
@@ -9,7 +10,7 @@ export const LINE_WORDS = ['easy', 'medium', 'hard'];
 const MOST_CELLS = 4;    // that are repainted
 const WIDTH = 10;        // candidates gone on from at each step
 const MOVES = 60;        // moves tried behind each of them: those that came nearest by themselves
-const ENOUGH = 24;       // repaints found
+const ENOUGH = 24;       // repaints of more cells found
 const FOR_GIVEN = 0.25;  // of the time
 
 // The bounds of docs/SESSION.md. They rank candidates alone: the engine says which word each has.
@@ -37,48 +38,59 @@ export function farFrom(figures, word) {
       (easier ? below(figures, BOUNDS[easier]) : 0);
 }
 
+/** The goal that a puzzle has a word. `grade(cells, givens)` answers for the engine. */
+export const wordGoal = (word, grade) => ({
+  ask: grade,
+  isMet: (figures) => figures.word === word,
+  far: (figures) => farFrom(figures, word),
+  goesOn: (count) => count === 0
+});
+
 /**
- * The search for one word. `found` hears `{ moves, codes }` of what is repainted, or `{ given }`.
+ * The search for a goal: `ask(cells, givens)` gives the figures of a candidate, which `isMet`
+ * takes, `far`, how far they are from it, and `goesOn(count)`, whether more cells are tried behind
+ * so many repaints. `found` hears `{ moves, codes, figures }` of what is repainted, or `{ given }`.
  */
 export class Aiming {
   board;
-  word;
-  grade;
-  path;
+  goal;
   asker;
   limit;
   found;
 
-  constructor({board, word, grade, path, asker, limit, found}) {
-    Object.assign(this, {board, word, grade, path, limit, found, asker});
+  constructor({board, goal, asker, limit, found}) {
+    Object.assign(this, {board, goal, limit, found, asker});
     this.candidate = new Candidate(board);
     this.seen = new Set();
     this.count = 0;  // repaints found
   }
 
-  async gradeOf(cells, givens) {
+  async figuresOf(cells, givens) {
     this.limit.check(this.asker.questions);
-    return this.grade(cells, givens);
+    return this.goal.ask(cells, givens);
   }
 
-  /** One cell to be given, of those that line logic leaves open: another would not be needed. */
-  async give() {
-    const {board} = this;
-    const falls = new Set(await this.path());
+  /**
+   * One cell to be given, of those that line logic leaves open: another would not be needed.
+   * `path()` gives the places of the cells that fall in the picture.
+   */
+  async give(path) {
+    const {board, goal} = this;
+    const falls = new Set(await path());
     const open = [...board.cells.keys()].filter(
         (index) => !falls.has(index) && !board.givens.includes(index)
     );
     for (const index of open) {
       if (!this.limit.share(FOR_GIVEN)) return;
-      if ((await this.gradeOf(board.cells, [...board.givens, index])).word === this.word)
+      if (goal.isMet(await this.figuresOf(board.cells, [...board.givens, index])))
         return void this.found({given: [index]});
     }
   }
 
-  // Moves with how far they are from the word; null where they were tried or are not allowed. What
-  // has the word is told.
+  // Moves with how far they are from the goal; null where they were tried or are not allowed. What
+  // meets it is reported.
   async tried(moves) {
-    const {candidate, board} = this;
+    const {candidate, board, goal} = this;
     candidate.become(moves);
     const isTwice =
         candidate.codes.some((code, at) => at > 0 && code >> 4 === candidate.codes[at - 1] >> 4);
@@ -86,17 +98,20 @@ export class Aiming {
         !candidate.isNeat())
       return null;
     this.seen.add(candidate.key);
-    const figures = await this.gradeOf(candidate.cells, board.givens);
-    const far = farFrom(figures, this.word);
-    if (figures.word === this.word) {
+    const figures = await this.figuresOf(candidate.cells, board.givens);
+    if (goal.isMet(figures)) {
       this.count++;
-      this.found({moves: [...moves], codes: [...candidate.codes]});
+      this.found({moves: [...moves], codes: [...candidate.codes], figures});
     }
-    return {moves: [...moves], far, pain: moves.reduce((sum, move) => sum + move.pain, 0)};
+    return {
+      moves: [...moves],
+      far: goal.far(figures),
+      pain: moves.reduce((sum, move) => sum + move.pain, 0)
+    };
   }
 
   /**
-   * Repaints of one cell, and where none of them does, of one more each time, from those that came
+   * Repaints of one cell, and while the goal goes on, of one more each time, from those that came
    * nearest; `beginnings` are lists of moves that are tried, too.
    */
   async repaint(beginnings) {
@@ -112,17 +127,22 @@ export class Aiming {
     }
     const best = nearest(singles).slice(0, MOVES).map((one) => one.moves[0]);
     front = nearest([...front.filter(Boolean), ...singles]).slice(0, WIDTH);
-    for (let step = 1; step < MOST_CELLS && this.count === 0; step++) {
-      const next = [];
-      for (const {moves: made} of front) {
-        for (const move of best) {
-          if (this.count >= ENOUGH) return;
-          const one = made.includes(move) ? null : await this.tried([...made, move]);
-          if (one) next.push(one);
-        }
+    for (let step = 1; step < MOST_CELLS && this.goal.goesOn(this.count); step++)
+      front = nearest([...await this.further(front, best), ...front]).slice(0, WIDTH);
+  }
+
+  // Tries each of some moves behind lists of moves, until it has found enough.
+  async further(front, moves) {
+    const enough = this.count + ENOUGH;
+    const next = [];
+    for (const {moves: made} of front) {
+      for (const move of moves) {
+        if (this.count >= enough) return next;
+        const one = made.includes(move) ? null : await this.tried([...made, move]);
+        if (one) next.push(one);
       }
-      front = nearest([...next, ...front]).slice(0, WIDTH);
     }
+    return next;
   }
 }
 

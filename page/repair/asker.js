@@ -6,7 +6,7 @@ import {LETTERS, cellsOf} from './board.js';
 const ALLOWANCE = 300;  // that bounds the search behind each question
 
 /** Memory ran out, or the session is not that of the picture. */
-export class AskError extends Error {}
+class AskError extends Error {}
 
 /**
  * Asks a session that shows the board's picture. `say` gives the session's text for lines, or a

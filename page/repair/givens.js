@@ -4,44 +4,30 @@
 // sets so far are asked for, and a further picture is a further set: so what has one solution at
 // last has the fewest cells, and that is known.
 
+import {groupsByLines} from '../document/turning.js';
 import {Narrowing} from './narrowing.js';
 
 const FEW = 3;          // so many given cells for line logic are looked for by trying all
 const MOST_TRIED = 40;  // open cells that are tried where no second picture is known
 
 /** The cells that line logic leaves open where `given` are given besides the board's own. */
-export const openWith = (board, given) =>
+const openWith = (board, given) =>
     new Narrowing(board, {givens: [...board.givens, ...given]}).settle().openCells();
 
 // The cells in which two pictures differ, in parts that share no line: each part alone is a second
 // picture.
 function partsOf(board, other) {
-  const differing = [];
-  for (let index = 0; index < other.length; index++)
-    if (other[index] !== board.cells[index]) differing.push(index);
-  const parts = [];
-  while (differing.length > 0) {
-    const part = [differing.pop()];
-    const lines = new Set();
-    for (let at = 0; at < part.length; at++) {
-      for (const line of board.linesOf(part[at])) lines.add(line);
-      for (let to = differing.length - 1; to >= 0; to--) {
-        if (board.linesOf(differing[to]).some((line) => lines.has(line)))
-          part.push(...differing.splice(to, 1));
-      }
-    }
-    parts.push(part);
-  }
-  return parts;
+  const differing = [...other.keys()].filter((index) => other[index] !== board.cells[index]);
+  return groupsByLines(differing, (index) => board.linesOf(index));
 }
 
 /**
  * The cells to be given that are needed: line logic does not settle them by the others. Without the
  * rest it leaves the same cells open, and the solutions are the same.
  */
-export const needed = (board, given) => given.reduce((kept, index) => {
-  const others = kept.filter((other) => other !== index);
-  return openWith(board, others).includes(index) ? kept : others;
+export const needed = (board, given) => given.reduce((rest, index) => {
+  const others = rest.filter((other) => other !== index);
+  return openWith(board, others).includes(index) ? rest : others;
 }, [...given]);
 
 const isMet = (set, given) => set.some((index) => given.has(index));

@@ -94,26 +94,26 @@ function fitFromTheBack(masks, slack, {lengths, colours}) {
   }
 }
 
-// Adds to `out` what each filling has: the background between blocks, then the blocks.
-function gather(masks, slack, {lengths, colours}, out) {
-  const count = lengths.length;
-  for (let block = 0; block <= count; block++) {
+// Adds to `out` the background that some filling has between blocks, or outside of all.
+function gatherBetween(masks, slack, {lengths}, out) {
+  for (let block = 0; block <= lengths.length; block++) {
     const row = block * STRIDE;
     for (let at = least[block], last = at + slack; at < last; at++)
       out[at] |= ends[row + at] & begins[row + at + 1] & masks[at] & 1;
   }
-  for (let block = 0; block < count; block++) {
+}
+
+// Adds to `out` the blocks that some filling has, each with the gap before it.
+function gatherBlocks(masks, slack, {lengths, colours}, out) {
+  for (let block = 0; block < lengths.length; block++) {
     const [length, gap, row, colour] =
         [lengths[block], gaps[block], block * STRIDE, colours[block]];
     for (let at = least[block], last = at + slack, filled = 0; at <= last; at++) {
       const from = at + gap;
-      if (!ends[row + at] || !begins[row + STRIDE + from + length] ||
-          free[colour * STRIDE + from + length] > from)
-        continue;
-      if (gap) {
-        if (!(masks[at] & 1)) continue;
-        out[at] |= 1;
-      }
+      const isPossible = ends[row + at] && begins[row + STRIDE + from + length] &&
+          free[colour * STRIDE + from + length] <= from && (!gap || masks[at] & 1);
+      if (!isPossible) continue;
+      if (gap) out[at] |= 1;
       for (let cell = Math.max(from, filled); cell < from + length; cell++)
         out[cell] |= 1 << colour;
       filled = from + length;
@@ -133,6 +133,7 @@ export function narrow(masks, size, clue, out) {
   findFree(masks, size, clue);
   if (!fitFromTheFront(masks, slack, clue)) return false;
   fitFromTheBack(masks, slack, clue);
-  gather(masks, slack, clue, out);
+  gatherBetween(masks, slack, clue, out);
+  gatherBlocks(masks, slack, clue, out);
   return true;
 }

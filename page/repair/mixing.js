@@ -4,7 +4,7 @@
 import {Giving, fewForLines} from './givens.js';
 
 const MOST_REPAINTED = 4;  // of a mixture
-const MOST_OF_A_SIZE = 3;  // beginnings kept of each size
+const MOST_OF_A_SIZE = 3;  // beginnings of each size
 
 /** The candidates of few changes that came nearest to the goal, so many of each size. */
 export class Nearest {
@@ -14,20 +14,20 @@ export class Nearest {
   note(proposal, far) {
     const size = proposal.cells.length;
     if (size > MOST_REPAINTED) return;
-    const kept = this.#bySize.get(size) ?? [];
+    const list = this.#bySize.get(size) ?? [];
     const isSame = (one) => one.cells.every(
         ({index, colour}, at) =>
             index === proposal.cells[at].index && colour === proposal.cells[at].colour
     );
-    if (kept.some(isSame)) return;
-    kept.push({...proposal, far});
-    kept.sort((one, other) => one.far - other.far || one.pain - other.pain);
-    this.#bySize.set(size, kept.slice(0, MOST_OF_A_SIZE));
+    if (list.some(isSame)) return;
+    list.push({...proposal, far});
+    list.sort((one, other) => one.far - other.far || one.pain - other.pain);
+    this.#bySize.set(size, list.slice(0, MOST_OF_A_SIZE));
   }
 
   /** The fewest changes first. */
   get all() {
-    return [...this.#bySize].sort(([one], [other]) => one - other).flatMap(([, kept]) => kept);
+    return [...this.#bySize].sort(([one], [other]) => one - other).flatMap(([, list]) => list);
   }
 }
 

@@ -49,7 +49,7 @@ export class Narrowing {
   settle() {
     if (this.isNew)
       for (let one = 0; one < this.isDue.length; one++)
-        this.#keep(one, aloneOf(this.clues[one], this.board.sizeOf(one), this.board.all));
+        this.#restrict(one, aloneOf(this.clues[one], this.board.sizeOf(one), this.board.all));
     this.isNew = false;
     for (let looks = 1; looks > 0;) {
       looks = 0;
@@ -78,29 +78,29 @@ export class Narrowing {
     for (let at = 0; at < size; at++) line[at] = masks[first + at * step];
     this.isDue[one] = 0;
     narrow(line, size, this.clues[one], out);
-    this.#keep(one, out);
+    this.#restrict(one, out);
   }
 
-  // Keeps of a line's candidates those that `kept` has, too.
-  #keep(one, kept) {
-    const [first, step] = this.board.placeOf(one);
-    for (let at = 0, size = this.board.sizeOf(one); at < size; at++) {
-      const index = first + at * step;
-      const mask = this.masks[index] & kept[at];
-      if (mask !== this.masks[index]) this.#write(index, mask, one);
-    }
+// Leaves of a line's candidates those that `allowed` has, too.
+#restrict(one, allowed) {
+  const [first, step] = this.board.placeOf(one);
+  for(let at = 0, size = this.board.sizeOf(one); at < size; at++) {
+    const index = first + at * step;
+    const mask = this.masks[index] & allowed[at];
+    if (mask !== this.masks[index]) this.#write(index, mask, one);
   }
+}
 
-  // Puts candidates that were excluded in a line, or in none: then both of the cell's lines are
-  // due.
-  #write(index, mask, one) {
-    const [row, column] = this.board.linesOf(index);
-    const wasOpen = !isSettled(this.masks[index]);
-    this.masks[index] = mask;
-    if (one !== row) this.isDue[row] = 1;
-    if (one !== column) this.isDue[column] = 1;
-    if (!wasOpen || !isSettled(mask)) return;
-    this.openIn[row]--;
-    this.openIn[column]--;
-  }
+// Puts candidates that were excluded in a line, or in none: then both of the cell's lines are
+// due.
+#write(index, mask, one) {
+  const [row, column] = this.board.linesOf(index);
+  const wasOpen = !isSettled(this.masks[index]);
+  this.masks[index] = mask;
+  if (one !== row) this.isDue[row] = 1;
+  if (one !== column) this.isDue[column] = 1;
+  if (!wasOpen || !isSettled(mask)) return;
+  this.openIn[row]--;
+  this.openIn[column]--;
+}
 }

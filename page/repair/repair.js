@@ -6,14 +6,15 @@
 //
 // `say` puts lines to a proved session that shows the board's picture, and gives its text or a
 // promise of it. Every proposal was judged by the session. `give` looks for cells to give, `mix`
-// for some of both, and `aim` for a grade.
+// for some of both, `aim` for a grade, and `delay` for what is known later.
 
 import {chances} from '../base/chance.js';
-import {Aiming} from './aiming.js';
+import {Aiming, wordGoal} from './aiming.js';
 import {Asker} from './asker.js';
 import {climb, dive} from './descents.js';
 import {Giving, givensForLines} from './givens.js';
 import {Judge, SpentError} from './judge.js';
+import {Later} from './later.js';
 import {Nearest, mixAll} from './mixing.js';
 import {elsewhere, placesOf} from './places.js';
 import {Search} from './search.js';
@@ -101,15 +102,15 @@ async function forLines(search, limit) {
 }
 
 /**
- * A candidate as it is shown. `cells` are { index, colour }, `pain` how much it is seen, `open`
- * the cells that line logic leaves.
+ * Some changes as they are shown, by their codes. `cells` are { index, colour }, `pain` how much
+ * they are seen, whichever moves they are made of, `open` the cells that line logic leaves.
  */
-function proposalOf(candidate, goal, {open}) {
-  const {moves, codes} = candidate;
+function proposalOf(board, codes, goal, {open}) {
+  const cells = codes.map((code) => ({index: code >> 4, colour: code & 15}));
   return {
     goal,
-    cells: codes.map((code) => ({index: code >> 4, colour: code & 15})),
-    pain: moves.reduce((sum, move) => sum + move.pain, 0),
+    cells,
+    pain: cells.reduce((sum, {index, colour}) => sum + board.pain(index, colour), 0),
     open,
   };
 }
@@ -127,7 +128,7 @@ async function inPlaces(search, limit, goal, told) {
     const found = (candidate, finding) => {
       if (!candidate.codes.length) return;
       repaints[at].push([...candidate.moves]);
-      told?.(places, {...proposalOf(candidate, goal, finding), place: at});
+      told?.(places, {...proposalOf(board, candidate.codes, goal, finding), place: at});
     };
     const one = new Search(
         board.holding(others[at]),
@@ -184,14 +185,17 @@ export async function repair(
     if (candidate.codes.length === 0) nearest = Math.min(nearest, far);
     if (candidate.codes.length === 0 || candidate.codes.length > MOST_NEAR || !candidate.isNeat())
       return;
-    const one = {...proposalOf(candidate, goal, finding), differing: finding.differing};
+    const one = {
+      ...proposalOf(board, candidate.codes, goal, finding),
+      differing: finding.differing
+    };
     near.note(one, far);
     if (far >= nearest) return;
     nearest = far;
     nearer?.(one);
   };
   const search = new Search(board, new Judge(asker, goal), limit, {
-    found: (candidate, finding) => found?.(proposalOf(candidate, goal, finding)),
+    found: ({codes}, finding) => found?.(proposalOf(board, codes, goal, finding)),
     tried
   });
   const isThrough = await bounded(asker, async () => {
@@ -275,15 +279,37 @@ export async function aim(
   const now = await grade(board.cells, board.givens);
   if (now.word === word) return {isThere: true, isThrough: true, questions: 0};
   const told = (one) => found?.(
-      one.given ? {goal: word, given: one.given, isLeast: true} : proposalOf(one, word, {open: 0})
+      one.given ? {goal: word, given: one.given, isLeast: true} :
+                  proposalOf(board, one.codes, word, {open: 0})
   );
-  const aiming = new Aiming({board, word, grade, path, asker, limit, found: told});
+  const goal = wordGoal(word, grade);
+  const aiming = new Aiming({board, goal, asker, limit, found: told});
   const isThrough = await bounded(asker, async () => {
-    await aiming.give();
+    await aiming.give(path);
     const begun = now.open > 0 ?
         await solvable(board, asker, new Limit({seconds: seconds / 2, ...bounds})) :
         [];
     await aiming.repaint(begun);
   });
   return {isThere: false, isThrough, questions: asker.questions};
+}
+
+/**
+ * Looks for few cells to repaint until half of some places is known later on the path of line
+ * logic, which still solves the puzzle. `path(cells)` answers for the engine: `{ looks, open }` of
+ * a picture's cells. `begun` hears at which share of the path it is known now, in percent; each
+ * proposal has its own. Answers whether the search came through.
+ */
+export async function delay(
+    {board, places, say, seconds, path, ...bounds}, {begun = null, found = null} = {}
+) {
+  const limit = new Limit({seconds, ...bounds});
+  const asker = new Asker(board, say);
+  const goal = new Later({places, givens: board.givens, path});
+  goal.share = (await goal.ask(board.cells)).share;
+  begun?.(goal.share);
+  const told = (one) =>
+      found?.({...proposalOf(board, one.codes, 'later', one.figures), share: one.figures.share});
+  const aiming = new Aiming({board, goal, asker, limit, found: told});
+  return {isThrough: await bounded(asker, () => aiming.repaint([]))};
 }

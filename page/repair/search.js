@@ -22,11 +22,11 @@ export class Search {
     this.hooks = hooks;
     this.candidate = new Candidate(board);
     this.pool = new Pool();
-    this.best = null;       // the moves of the smallest repair
-    this.proved = 0;        // no repair has so few moves
-    this.told = new Set();  // the keys of repairs
-    this.wanted = 1;        // how many repairs there are when an exact search ends
-    this.until = Infinity;  // when an exact search is cut off
+    this.best = null;           // the moves of the smallest repair
+    this.proved = 0;            // no repair has so few moves
+    this.proposed = new Set();  // the keys of repairs
+    this.wanted = 1;            // how many repairs there are when an exact search ends
+    this.until = Infinity;      // when an exact search is cut off
     this.isCut = false;
     this.isSure = true;  // no candidate was left undecided
     this.visited = new Set();
@@ -61,8 +61,8 @@ export class Search {
   /** Tells the candidate, which was just judged, as a repair, once. */
   record() {
     const {candidate} = this;
-    if (this.told.has(candidate.key)) return;
-    this.told.add(candidate.key);
+    if (this.proposed.has(candidate.key)) return;
+    this.proposed.add(candidate.key);
     if (candidate.moves.length < this.size) this.best = [...candidate.moves];
     this.hooks.found(candidate, this.last);
   }
@@ -99,7 +99,7 @@ export class Search {
   #accept() {
     if (!this.candidate.isNeat()) return false;
     this.record();
-    return this.told.size >= this.wanted;
+    return this.proposed.size >= this.wanted;
   }
 
   // The clock is looked at now and then alone: it is slow beside a comparison of clues.
@@ -165,7 +165,7 @@ export class Search {
    * one was found.
    */
   async within(moves, left, milliseconds, wanted = 1) {
-    const before = this.told.size;
+    const before = this.proposed.size;
     this.candidate.become(moves);
     this.visited = new Set();
     this.until = this.limit.now() + milliseconds;
@@ -173,7 +173,7 @@ export class Search {
     this.wanted = before + wanted;
     await this.exact(left);
     this.until = Infinity;
-    return this.told.size > before;
+    return this.proposed.size > before;
   }
 
   /**

@@ -2,12 +2,13 @@
 // the same clues. For line logic: cells whose candidates hold one another up. Kept, one refutes
 // further candidates without a question to the engine.
 
+import {groupsByLines} from '../document/turning.js';
 import {MOST_CELLS, clueOf, narrow} from './lines.js';
 
 const line = new Uint8Array(MOST_CELLS);
 const other = new Uint8Array(MOST_CELLS);
 const masks = new Uint16Array(MOST_CELLS);
-const kept = new Uint16Array(MOST_CELLS);
+const narrowed = new Uint16Array(MOST_CELLS);
 const changed = new Uint8Array(2 * MOST_CELLS);  // lines
 const POOL = 4000;                               // witnesses kept
 
@@ -28,7 +29,7 @@ export function haveSameClue(one, two, size) {
 }
 
 /** Cells that share lines, each with a value: another colour, or the mask of its candidates. */
-export class Witness {
+class Witness {
   constructor(board, cells, values, codes, isMask) {
     this.board = board;
     this.cells = Uint16Array.from(cells);
@@ -121,9 +122,9 @@ export class Witness {
       for (let cell = 0; cell < size; cell++) masks[cell] = 1 << line[cell];
       const noted = this.inLine.get(changed[one]);
       for (let place = 0; place < noted.length; place += 2) masks[noted[place]] |= noted[place + 1];
-      narrow(masks, size, clueOf(line.subarray(0, size)), kept);
+      narrow(masks, size, clueOf(line.subarray(0, size)), narrowed);
       for (let cell = 0; cell < size; cell++)
-        if (kept[cell] !== masks[cell]) return false;
+        if (narrowed[cell] !== masks[cell]) return false;
     }
     return true;
   }
@@ -143,37 +144,11 @@ export class Witness {
  */
 export function witnessesOf(candidate, values, isMask) {
   const {board} = candidate;
-  const {rows, columns} = board;
-  const [rowDone, columnDone, seen] =
-      [new Uint8Array(rows), new Uint8Array(columns), new Uint8Array(values.length)];
-  const found = [];
-  for (let first = 0; first < values.length; first++) {
-    if (!values[first] || seen[first]) continue;
-    const part = [first];
-    seen[first] = 1;
-    const take = (index) => {
-      if (!values[index] || seen[index]) return;
-      seen[index] = 1;
-      part.push(index);
-    };
-    for (let at = 0; at < part.length; at++) {
-      const [row, column] = [Math.floor(part[at] / columns), part[at] % columns];
-      if (!rowDone[row])
-        for (let c = 0; c < columns; c++) take(row * columns + c);
-      if (!columnDone[column])
-        for (let r = 0; r < rows; r++) take(r * columns + column);
-      rowDone[row] = 1;
-      columnDone[column] = 1;
-    }
-    found.push(new Witness(
-        board,
-        part,
-        part.map((index) => (isMask ? values[index] : values[index] - 1)),
-        [...candidate.codes],
-        isMask
-    ));
-  }
-  return found;
+  const places = [...values.keys()].filter((index) => values[index]);
+  return groupsByLines(places, (index) => board.linesOf(index)).map((part) => {
+    const its = part.map((index) => (isMask ? values[index] : values[index] - 1));
+    return new Witness(board, part, its, [...candidate.codes], isMask);
+  });
 }
 
 /** The witnesses so far. Those that refuted something lately come first. */

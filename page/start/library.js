@@ -1,7 +1,7 @@
 // The library on the start screen: all pictures that the browser keeps, to be found, opened,
 // renamed, copied and taken away.
 
-import {$, buttonOf, choiceOf, make, say} from '../base/elements.js';
+import {$, buttonOf, choiceOf, fieldOf, make, say} from '../base/elements.js';
 import {on} from '../base/events.js';
 import {gradeName, verdictName} from '../base/names.js';
 import {cleanName, opening, sizeText} from '../base/words.js';
@@ -55,7 +55,7 @@ function bytesText(bytes) {
 const view = {
   list: null,
   section: null,
-  room: null,
+  usage: null,
   cards: [],
   shown: 0,
   goBack: () => {},
@@ -73,7 +73,7 @@ const FIRST = 60;       // tiles at once; more are shown on wish
 export function makeLibrary(goBack) {
   view.goBack = goBack;
   view.list = make('ul', {class: 'tiles', id: 'library'});
-  view.room = make('p', {class: 'faint', id: 'room'});
+  view.usage = make('p', {class: 'faint', id: 'room'});
   const search = make('input', {
     type: 'search',
     id: 'library-search',
@@ -102,7 +102,7 @@ export function makeLibrary(goBack) {
           )
       ),
       view.list,
-      view.room
+      view.usage
   );
   view.listed = fillLibrary();
   return view.section;
@@ -121,7 +121,7 @@ async function fillLibrary() {
   view.shown = FIRST;
   view.section.hidden = view.cards.length === 0;
   showCards();
-  await showRoom(keeper);
+  await showUsage(keeper);
 }
 
 function showCards() {
@@ -153,10 +153,11 @@ function showCards() {
   );
 }
 
-async function showRoom(keeper) {
+// How much the library takes, and how much more the browser allows.
+async function showUsage(keeper) {
   if (!keeper.shelf.lasts) {
     view.section.hidden = false;
-    view.room.textContent =
+    view.usage.textContent =
         phrase('library.yourWorkTabAlone', {why: phrase('library.browserKeepsNothingPage')});
     return;
   }
@@ -166,7 +167,7 @@ async function showRoom(keeper) {
   const {usage, quota} = estimate ?? {};
   const room =
       quota ? phrase('start.browserRoomMore', {max: bytesText(Math.max(0, quota - usage))}) : '';
-  view.room.textContent = phrase(
+  view.usage.textContent = phrase(
       'start.picturesBrowserTheyStay', {pictures: view.cards.length, bytes: bytesText(own), room}
   );
 }
@@ -187,7 +188,7 @@ function tileOf(card) {
   const open = () => (isOpen ? view.goBack() : openRecord(card.id));
   return make(
       'li',
-      {class: 'tile'},
+      {},
       make(
           'button',
           {type: 'button', class: 'kept', 'data-id': card.id, onclick: open},
@@ -244,12 +245,10 @@ function menuOf(card, isOpen) {
 }
 
 async function rename(card) {
-  const field = make(
-      'input', {type: 'text', value: card.name, maxlength: '80', 'aria-label': phrase('view.name')}
-  );
+  const field = make('input', {type: 'text', value: card.name, maxlength: '80'});
   if (!(await openDialog({
         title: phrase('start.rename'),
-        content: field,
+        content: fieldOf(phrase('view.name'), field),
         buttons: [{name: phrase('start.rename'), value: true, main: true}]
       })))
     return;
@@ -283,7 +282,7 @@ const remove = ({id, name}) => tried(async () => {
 // ---- where room is short
 
 /**
- * Asks which pictures may go, so that there is room for the one at hand. Nothing goes that is not
+ * Asks which pictures may go, so that there is room for the open one. Nothing goes that is not
  * chosen.
  */
 async function makeRoom() {
@@ -315,7 +314,7 @@ async function makeRoom() {
         buttons: [{name: phrase('view.delete'), value: true, main: true, test}]
       })))
     return;
-  keep.told = null;
+  keep.withdraw = null;
   let isElsewhere = false;
   for (const {id} of chosen()) isElsewhere = !(await keep.drop(id)) || isElsewhere;
   say(isElsewhere ? phrase('start.openElsewhere') : '');

@@ -63,6 +63,7 @@ function drawShare(canvas, doc, clues, share) {
       surface.rect(x, y, wide, high, look.fills[LETTERS.indexOf(letter)]);
     }
   });
+  if (!share) return;
   surface.pen.globalAlpha = share;
   const size = {width: 12, height: SIDE - 1};
   const place =
@@ -91,20 +92,23 @@ export function loopOf(doc) {
   });
   const clues = runsOf(doc);
   const isStill = matchMedia('(prefers-reduced-motion: reduce)');
-  let [at, drawn] = [0, -1];
+  let [at, drawn, timer] = [0, -1, 0];
   const draw = (share) => {
     if (share !== drawn) drawShare(canvas, doc, clues, share);
     drawn = share;
   };
   const go = () => {
-    if (!canvas.isConnected) return;
-    if (canvas.offsetParent && !document.hidden) draw(isStill.matches ? 0.5 : shareAt(at++));
-    setTimeout(go, isStill.matches ? REST : STEP);
+    if (!document.hidden) draw(isStill.matches ? 0.5 : shareAt(at++));
+    timer = setTimeout(go, isStill.matches ? REST : STEP);
   };
+  const seen = new IntersectionObserver((changes) => {
+    clearTimeout(timer);
+    if (changes.at(-1).isIntersecting) timer = setTimeout(go, REST);
+  });
   // The page is ready before it is drawn for the first time.
   requestAnimationFrame(() => setTimeout(() => {
                           draw(isStill.matches ? 0.5 : 0);
-                          setTimeout(go, REST);
+                          seen.observe(canvas);
                         }, SOON));
   return canvas;
 }

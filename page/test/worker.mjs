@@ -36,11 +36,11 @@ export const engine = () => load(bytes);
 
 /**
  * Makes what stands for `new Worker(..)`; `made` gets each of them, `fails` says at which texts a
- * worker ends by itself, and `told` makes another text of what the engine tells.
+ * worker ends by itself, and `alter` makes another text of what the engine says.
  */
-export function workers({fails = (text, worker) => false, made = [], told = (text) => text} = {}) {
+export function workers({fails = (text, worker) => false, made = [], alter = (text) => text} = {}) {
   return () => {
-    const heard = (data) => (typeof data.ok === 'string' ? {...data, ok: told(data.ok)} : data);
+    const heard = (data) => (typeof data.ok === 'string' ? {...data, ok: alter(data.ok)} : data);
     const scope = {
       postMessage: (data) =>
           setImmediate(() => !worker.isEnded && worker.onmessage({data: heard(data)}))

@@ -154,7 +154,7 @@ export const DE =
           'view.moveViewAlsoTwo':
               'die Ansicht verschieben; auch mit zwei Fingern oder der mittleren Taste',
           'view.wheel': 'Mausrad',
-          'view.zoomShiftAcross': 'zoomen; mit Umschalt seitwärts',
+          'view.zoomShiftAcross': 'zoomen; mit Umschalt seitwärts scrollen',
           'view.rightButtonAlt': 'Rechte Taste, Alt',
           'view.pickColourHelp': 'die Farbe eines Feldes aufnehmen',
           'view.homeEndPage': 'Pos1, Ende, Bild auf, Bild ab',
@@ -336,7 +336,7 @@ export const DE =
           'view.longerSearchTimeMay':
               'Mit einer längeren „Suchzeit“ finden sich vielleicht welche.',
           'view.pictureTooLooseBolder':
-              'Das Bild ist zu locker: Eine kräftigere Schwelle beim Import oder dickere Linien helfen vielleicht mehr.',
+              'Das Bild ist zu locker: Ein höheres „Dunkel unter“ beim Import oder dickere Linien helfen vielleicht mehr.',
           'view.adviceDithered':
               'Viele Felder stehen allein: Ein Import ohne Dithering oder ohne kleine Flecken hilft vielleicht mehr.',
           'view.adviceSparse':
@@ -346,6 +346,15 @@ export const DE =
           'view.fixTitle': 'Reparieren',
           'view.easier': 'Leichter',
           'view.harder': 'Schwerer',
+          'view.knownLater': 'Später',
+          'view.knownLaterHint':
+              'Sucht Änderungen, nach denen die Hälfte der Auswahl auf dem Lösungsweg später bekannt ist',
+          'view.selectionKnownLater': 'die Auswahl ist später bekannt',
+          'view.selectForLater':
+              'Wählen Sie erst den Teil aus, der später bekannt sein soll, etwa ein Gesicht (s).',
+          'view.solvedForLater': 'Erst muss das Bild Linie für Linie lösbar sein.',
+          'view.noneLater':
+              'Keine Änderung von höchstens vier Feldern wurde gefunden, nach der sie später bekannt ist.',
           'view.until': 'Ziel',
           'view.whatMayRepainted': 'Was ummalt werden darf',
           'view.findCellsRepaint': 'Neu suchen',
@@ -384,7 +393,7 @@ export const DE =
           'view.noneSmaller': ' Nach diesen Regeln ist keiner kleiner.',
           'view.moreCellsPictureToo': ' Alle brauchen mehr als {few} Felder. {advice}',
           'view.proposalsFoundChooseOne':
-              '{proposals|# Vorschlag|# Vorschläge} gefunden.{least}{loose} Wählen Sie einen, um ihn zu malen; {see}, um ihn vorher zu sehen.',
+              '{proposals|# Vorschlag|# Vorschläge} gefunden.{least}{loose} Wählen Sie einen, um ihn anzuwenden; {see}, um ihn vorher zu sehen.',
           'view.pointToSee': 'zeigen Sie darauf',
           'view.holdToSee': 'halten Sie ihn gedrückt',
           'view.andGiven': ' und {count} vorgegeben',
@@ -434,6 +443,8 @@ export const DE =
           'view.thenCellsGuess': '; dann {cells|# offenes Feld|# offene Felder}',
           'view.thenNoGuessing': '; dann Linie für Linie lösbar',
           'view.thenGrade': '; danach ist die Schwierigkeit „{grade}“',
+          'view.thenKnownAt': '; danach ist die Hälfte der Auswahl bei {share} % bekannt',
+          'view.knownAt': 'bei {share} %',
           'view.oneCell': '1 Feld: {place}: ',
           'view.to': ' zu ',
           'view.fewest': ', so wenige wie möglich',
@@ -461,7 +472,7 @@ export const DE =
           'view.details': 'Einzelheiten',
           'view.fitToPublish': 'Zum Veröffentlichen',
           'view.fitMeans':
-              '„Zum Veröffentlichen“ geeignet ist ein Rätsel, wenn es nur eine Lösung hat, nicht leer ist und weder unnötig vorgegebene Felder noch zu ähnliche Farben hat. Die Schwierigkeit zählt Runden, jede durch alle Zeilen und Spalten; die längste Wartezeit ist die größte Zahl betrachteter Linien, bis eine ein Feld bestimmt.',
+              '„Zum Veröffentlichen“ geeignet ist ein Rätsel, wenn es nur eine Lösung hat, nicht leer ist, auch Felder mit dem Hintergrund hat und weder unnötig vorgegebene Felder noch zu ähnliche Farben. Die Schwierigkeit zählt Runden, jede durch alle Zeilen und Spalten, und die größte Zahl betrachteter Linien, bis eine ein Feld bestimmt.',
           'view.publishYes': 'geeignet',
           'view.publishNo': 'nicht geeignet',
           'view.publishNoAs': 'nicht geeignet: {flaws}',
@@ -555,9 +566,11 @@ export const DE =
           'play.block': 'der Block {length} {colour}',
           'play.blockIn': '{block} in {places}',
           'play.isComplete': '{block} ist vollständig',
-          'play.coversThem': ', denn {block} bedeckt {count|sie|sie}, wo immer er liegt',
+          'play.coversThem':
+              ', durch Überlappung: {block} bedeckt {count|sie|sie}, wo immer er liegt',
           'play.blocksFill': ', denn ihre Blöcke füllen die Linie',
           'play.excludedIn': 'kreuzende Linien schließen in {places} Farben aus',
+          'play.fromEdge': ', vom Rand aus, denn {reasons}',
           'play.since': ', denn {reasons}',
           'play.markThem': ' Markieren Sie {count|sie|sie} mit ×.',
           'play.tellsMore': '{lineName}: Hier ergeben sich weitere Felder.',
@@ -606,7 +619,7 @@ export const DE =
           'play.heatMap': 'Heatmap',
           'play.solveYourself': 'Selbst lösen',
           'play.suppose':
-              'Mehr als Linienlogik: {place} ist {colour}. Jede andere Farbe dort führt nicht weiter.',
+              'Mehr als Linienlogik: {place} ist {colour}. Jede andere Farbe dort führt zu einem Widerspruch.',
           'play.emptyPuzzle': ': das leere Rätsel.',
           'play.soFar': ' bisher',
           'play.stepOf': 'Schritt {at} von {count}{isWhole}{told}',
@@ -756,11 +769,11 @@ export const DE =
           'import.segments': 'Wie viele Teile',
           'import.inkOrPaper': 'Teile des Bildes: Tinte oder Papier',
           'import.turnSwatch':
-              'Ein Klick macht eine Farbe von Tinte (■) zu Papier (□) und umgekehrt.',
+              'Ein Klick macht eine Farbe von Tinte (gefüllt) zu Papier (leer) und umgekehrt.',
           'import.isInk': '{name}: Tinte',
           'import.isPaper': '{name}: Papier',
-          'import.bestSix': 'Die besten sechs …',
-          'import.bestSixTitle': 'Zwei Farben: die besten sechs',
+          'import.bestSix': 'Die besten Vorschläge …',
+          'import.bestSixTitle': 'Zwei Farben: die besten Vorschläge',
           'import.inkShare': '{share} % Tinte',
           'import.bestFirst':
               '{pictures|# Bild|# Bilder}: zuerst die mit einer einzigen Lösung, dann nach den Kanten, die bleiben.',
@@ -817,7 +830,7 @@ export const DE =
           'import.ofAll': '{count} von {all}',
           'import.noPictureGoes': 'hier ist kein Bild, zu dem sie gehört',
           'import.callIt':
-              'hier ist kein Bild, zu dem sie gehört: Was zu herz.ppm gehört, heißt herz.ppm{ending}',
+              'hier ist kein Bild, zu dem sie gehört: Geben Sie ihr den Namen ihres Bildes mit {ending} dahinter, etwa herz.ppm{ending}',
           'import.othersLeftOut': 'mehr als {most} Rätsel: die übrigen bleiben weg',
           'import.severalOfName':
               'ein Ordner oder mehrere Dateien heißen wie sie oder wie eine Datei, die zu ihr gehört',
@@ -950,10 +963,11 @@ export const DE =
           'export.addFiles': 'Dateien dazu …',
           'export.addFolder': 'Ordner dazu …',
           'export.judgedOf': '{at} von {count} beurteilt',
-          'export.bookHolds':
-              '{puzzles|# Rätsel|# Rätsel} auf {sheets|# Blatt|# Blättern}; {left|# Bild|# Bilder} nicht dabei.',
+          'export.emptyList': 'Liste leeren',
+          'export.bookHolds': '{puzzles|# Rätsel|# Rätsel} auf {sheets|# Blatt|# Blättern}{out}.',
+          'export.bookLeavesOut': '; {left|# Bild|# Bilder} nicht dabei',
           'export.bookSaved': '{puzzles|# Rätsel|# Rätsel} gespeichert als „{name}.zip“.',
-          'export.chooseForBook': 'Wähle zuerst ein Rätsel für das Buch.',
+          'export.chooseForBook': 'Wählen Sie zuerst ein Rätsel für das Buch.',
           'export.gradesFromTo': '{from} bis {to}',
           'export.sheetBefore': 'Blatt davor',
           'export.sheetAfter': 'Blatt danach',

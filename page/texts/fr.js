@@ -151,7 +151,7 @@ export const FR =
           'view.spaceDrag': 'Espace et glisser',
           'view.moveViewAlsoTwo': 'déplacer la vue ; aussi deux doigts ou le bouton du milieu',
           'view.wheel': 'Molette',
-          'view.zoomShiftAcross': 'zoomer ; avec Maj en travers',
+          'view.zoomShiftAcross': 'zoomer ; avec Maj, défiler de côté',
           'view.rightButtonAlt': 'Bouton droit, Alt',
           'view.pickColourHelp': 'prendre la couleur d’une case',
           'view.homeEndPage': 'Début, Fin, Page préc., Page suiv.',
@@ -207,7 +207,7 @@ export const FR =
           'view.bothSizes': 'Les deux vont de 1 à {most}.',
           'view.larger': 'Cases plus grandes',
           'view.smaller': 'Cases plus petites',
-          'view.fit': 'Ajuster',
+          'view.fit': 'Ajuster à la fenêtre',
           'view.safeDots': 'Montrer les cases à risque',
           'view.safeDotsHint':
               'Tant que la grille n’a qu’une solution. Un point près du pointeur : la couleur choisie y laisserait plusieurs solutions, ou les lignes ne suffiraient plus. Un anneau : non décidé.',
@@ -330,7 +330,7 @@ export const FR =
           'view.longerSearchTimeMay':
               'Une « Durée de recherche » plus longue en trouvera peut-être.',
           'view.pictureTooLooseBolder':
-              'L’image est trop clairsemée : un seuil plus fort à l’import, ou des traits plus épais, aideront peut-être davantage.',
+              'L’image est trop clairsemée : un « Sombre au-dessous de » plus élevé à l’import, ou des traits plus épais, aideront peut-être davantage.',
           'view.adviceDithered':
               'Beaucoup de cases sont isolées : une importation sans tramage ou sans petites taches peut aider davantage.',
           'view.adviceSparse':
@@ -340,6 +340,15 @@ export const FR =
           'view.fixTitle': 'Réparer',
           'view.easier': 'Plus facile',
           'view.harder': 'Plus difficile',
+          'view.knownLater': 'Plus tard',
+          'view.knownLaterHint':
+              'Cherche des retouches après lesquelles la moitié de la sélection est connue plus tard',
+          'view.selectionKnownLater': 'la sélection est connue plus tard',
+          'view.selectForLater':
+              'Sélectionnez d’abord la partie qui doit être connue plus tard, un visage par exemple (s).',
+          'view.solvedForLater': 'L’image doit d’abord être soluble ligne par ligne.',
+          'view.noneLater':
+              'Aucun changement d’au plus quatre cases n’a été trouvé après lequel elle est connue plus tard.',
           'view.until': 'Objectif',
           'view.whatMayRepainted': 'Ce qui peut être repeint',
           'view.findCellsRepaint': 'Chercher de nouveau',
@@ -379,7 +388,7 @@ export const FR =
           'view.noneSmaller': ' Selon ces règles, il n’en existe pas de plus petite.',
           'view.moreCellsPictureToo': ' Toutes demandent plus de {few} cases. {advice}',
           'view.proposalsFoundChooseOne':
-              '{proposals|# proposition trouvée|# de propositions trouvées|# propositions trouvées}.{least}{loose} Choisissez-en une pour la peindre ; {see} pour la voir d’abord.',
+              '{proposals|# proposition trouvée|# de propositions trouvées|# propositions trouvées}.{least}{loose} Choisissez-en une pour l’appliquer ; {see} pour la voir d’abord.',
           'view.pointToSee': 'pointez-la',
           'view.holdToSee': 'maintenez-la appuyée',
           'view.andGiven': ' et {count} données',
@@ -429,6 +438,8 @@ export const FR =
               ' ; puis {cells|# case ouverte|# de cases ouvertes|# cases ouvertes}',
           'view.thenNoGuessing': ' ; puis soluble ligne par ligne',
           'view.thenGrade': ' ; la difficulté est alors « {grade} »',
+          'view.thenKnownAt': ' ; la moitié de la sélection est alors connue à {share} %',
+          'view.knownAt': 'à {share} %',
           'view.oneCell': '1 case : {place} : ',
           'view.to': ' → ',
           'view.fewest': ', le moins possible',
@@ -456,7 +467,7 @@ export const FR =
           'view.details': 'Détails',
           'view.fitToPublish': 'Bonne à publier',
           'view.fitMeans':
-              'Une grille est prête à publier si elle n’a qu’une solution, n’est pas vide, et n’a ni case donnée inutile ni couleurs qui se confondent. Sa difficulté compte des tours, chacun sur toutes les lignes et colonnes\u00a0; la plus longue attente est le plus grand nombre de lignes examinées jusqu’à ce que l’une détermine une case.',
+              'Une grille est prête à publier si elle n’a qu’une solution, n’est pas vide, laisse des cases au fond, et n’a ni case donnée inutile ni couleurs qui se confondent. Sa difficulté compte des tours, chacun sur toutes les lignes et colonnes, et le plus grand nombre de lignes examinées jusqu’à ce que l’une détermine une case.',
           'view.publishYes': 'oui',
           'view.publishNo': 'non',
           'view.publishNoAs': 'non : {flaws}',
@@ -552,9 +563,11 @@ export const FR =
           'play.block': 'le {length} {colour}',
           'play.blockIn': '{block} ({places})',
           'play.isComplete': '{block} est complet',
-          'play.coversThem': ', car {block} {count|la couvre|les couvre|les couvre} où qu’il soit',
+          'play.coversThem':
+              ', par recouvrement : {block} {count|la couvre|les couvre|les couvre} où qu’il soit',
           'play.blocksFill': ', car ses blocs la remplissent',
           'play.excludedIn': 'des lignes croisées excluent des couleurs ({places})',
+          'play.fromEdge': ', depuis le bord, car {reasons}',
           'play.since': ', car {reasons}',
           'play.markThem': ' Marquez-{count|la|les|les} avec ×.',
           'play.tellsMore': '{lineName} : d’autres cases s’en déduisent.',
@@ -603,7 +616,7 @@ export const FR =
           'play.heatMap': 'Carte des tours',
           'play.solveYourself': 'Résoudre soi-même',
           'play.suppose':
-              'Plus que la logique ligne par ligne : {place} est {colour}. Toute autre couleur y mène à une impasse.',
+              'Plus que la logique ligne par ligne : {place} est {colour}. Toute autre couleur y mène à une contradiction.',
           'play.emptyPuzzle': ' : la grille vide.',
           'play.soFar': ' jusqu’ici',
           'play.stepOf': 'Pas {at} sur {count}{isWhole}{told}',
@@ -759,11 +772,11 @@ export const FR =
           'import.segments': 'Nombre de parties',
           'import.inkOrPaper': 'Parties de l’image : encre ou papier',
           'import.turnSwatch':
-              'Un clic fait passer une couleur de l’encre (■) au papier (□), et inversement.',
+              'Un clic fait passer une couleur de l’encre (plein) au papier (vide), et inversement.',
           'import.isInk': '{name} : encre',
           'import.isPaper': '{name} : papier',
-          'import.bestSix': 'Les six meilleures …',
-          'import.bestSixTitle': 'Deux couleurs : les six meilleures',
+          'import.bestSix': 'Les meilleures propositions …',
+          'import.bestSixTitle': 'Deux couleurs : les meilleures propositions',
           'import.inkShare': '{share} % d’encre',
           'import.bestFirst':
               '{pictures|# image|# d’images|# images} : d’abord celles qui ont une seule solution, puis selon les contours conservés.',
@@ -821,7 +834,7 @@ export const FR =
           'import.ofAll': '{count} sur {all}',
           'import.noPictureGoes': 'aucune image ici ne va avec',
           'import.callIt':
-              'aucune image ici ne va avec : ce qui va avec cœur.ppm s’appelle cœur.ppm{ending}',
+              'aucune image ici ne va avec : renommez-le d’après son image, avec {ending} à la fin, comme cœur.ppm{ending}',
           'import.othersLeftOut': 'plus de {most} grilles : les autres sont laissées de côté',
           'import.severalOfName':
               'un dossier ou plusieurs fichiers ont son nom, ou celui d’un fichier qui va avec',
@@ -956,8 +969,11 @@ export const FR =
           'export.addFiles': 'Ajouter des fichiers …',
           'export.addFolder': 'Ajouter un dossier …',
           'export.judgedOf': '{at} sur {count} jugées',
+          'export.emptyList': 'Vider la liste',
           'export.bookHolds':
-              '{puzzles|# grille|# de grilles|# grilles} sur {sheets|# feuille|# de feuilles|# feuilles} ; {left|# image laissée|# d’images laissées|# images laissées} de côté.',
+              '{puzzles|# grille|# de grilles|# grilles} sur {sheets|# feuille|# de feuilles|# feuilles}{out}.',
+          'export.bookLeavesOut':
+              ' ; {left|# image laissée|# d’images laissées|# images laissées} de côté',
           'export.bookSaved':
               '{puzzles|# grille enregistrée|# de grilles enregistrées|# grilles enregistrées} sous « {name}.zip ».',
           'export.chooseForBook': 'Cochez d’abord une grille pour le livre.',

@@ -24,16 +24,16 @@ export const MENUS = {
 /**
  * Adds an action. `id` names it; `name` is what the user reads; `key` as in 'Ctrl+Z', 'n' or
  * 'Shift+ArrowUp'; `place` is a menu ('file', 'edit', 'picture', 'view', 'check', 'help'), the id
- * of an element that takes a button, or null for a key alone; `told` is a key that the menu tells
- * and the browser hears; `run(event)` does it; `can()` says whether it can be done now; `needs` is
- * false where no picture must be open; `isOn()` says whether it is ticked in a menu; `hint` says
- * more of it below its name in a menu, and where the mouse rests.
+ * of an element that takes a button, or null for a key alone; `shown` is a key that the menu
+ * shows and the browser hears; `run(event)` does it; `can()` says whether it can be done now;
+ * `needs` is false where no picture must be open; `isOn()` says whether it is ticked in a menu;
+ * `hint` says more of it below its name in a menu, and where the mouse rests.
  */
 export function addAction({
   id,
   name,
   key = null,
-  told = key ?? '',
+  shown = key ?? '',
   place = null,
   run,
   can = () => true,
@@ -46,7 +46,7 @@ export function addAction({
     id: id ?? name,
     name,
     key,
-    told,
+    shown,
     place,
     run,
     group,
@@ -230,7 +230,7 @@ function itemsOf(list, place) {
           'aria-disabled', 'true'
       );  // it keeps the focus, and with it the keys of the menu
     item.append(
-        make('kbd', {}, keyText(action.told.split(' ')[0])),
+        make('kbd', {}, keyText(action.shown.split(' ')[0])),
         ...(action.hint ? [make('small', {class: 'faint', 'aria-hidden': 'true'}, action.hint)] : []
         )
     );  // heard by its title
@@ -244,15 +244,15 @@ function itemsOf(list, place) {
 
 /** Hears the keys of a menu: arrows go to its entries, Escape back to its button. */
 export function menuKey(event, list, button) {
-  const way = {ArrowDown: 1, ArrowUp: -1}[event.key];
+  const step = {ArrowDown: 1, ArrowUp: -1}[event.key];
   if (event.key === 'Escape' || event.key === 'Tab') {
     list.hidePopover();
     if (event.key === 'Escape') button.focus();
   }
-  if (!way) return;
+  if (!step) return;
   event.preventDefault();
   const items = [...list.querySelectorAll(FREE_ITEM)];
-  items.at((items.indexOf(document.activeElement) + way) % items.length)?.focus();
+  items.at((items.indexOf(document.activeElement) + step) % items.length)?.focus();
 }
 
 // The keys that an element leaves to the page: of a field of text few, of a choice those with Ctrl.

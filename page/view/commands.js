@@ -14,8 +14,33 @@ import {cursor} from './grid.js';
 import {goToNext} from './minimap.js';
 import {LINE_TEXTS, showCell} from './panels.js';
 import {zoomBy} from './pointer.js';
-import {clearSelected, copyToClipboard, dropSelection, lift, moveFloat, pasteRows, selectPlaces, selectedPlaces, selection, setDown, showSelection, transform} from './select.js';
-import {dropDrag, forgetReason, heard, nextSymmetry, paintPlaces, sendStroke, tools, useAdding, useColour, useTool, whileOpen} from './tools.js';
+import {
+  clearSelected,
+  copyToClipboard,
+  dropSelection,
+  lift,
+  moveFloat,
+  pasteRows,
+  selectPlaces,
+  selectedPlaces,
+  selection,
+  setDown,
+  showSelection,
+  transform
+} from './select.js';
+import {
+  dropDrag,
+  forgetReason,
+  heard,
+  nextSymmetry,
+  paintPlaces,
+  sendStroke,
+  tools,
+  useAdding,
+  useColour,
+  useTool,
+  whileOpen
+} from './tools.js';
 
 const FAR = 5;  // cells that a selection is moved by with Shift
 const SHIFTS = [
@@ -102,14 +127,14 @@ function addSelectActions() {
   edit({
     id: 'copy',
     name: phrase('export.copy'),
-    told: 'Ctrl+C',
+    shown: 'Ctrl+C',
     group: 'select',
     run: () => copyToClipboard(false)
   });
   edit({
     id: 'cut',
     name: phrase('view.cut'),
-    told: 'Ctrl+X',
+    shown: 'Ctrl+X',
     group: 'select',
     run: () => copyToClipboard(true),
     can: hasBox

@@ -5,6 +5,32 @@ import {$, make} from '../base/elements.js';
 import {phrase} from '../texts/phrase.js';
 
 /**
+ * A button of a dialog. Who presses the main one submits the form.
+ * @param {{name: string, main?: boolean, isPlain?: boolean}} button
+ * @param {() => any} press
+ */
+const buttonOf = ({name, main, isPlain}, press) => make(
+    'button',
+    {
+      type: main ? 'submit' : 'button',
+      class: main && !isPlain ? 'main' : null,
+      onclick: main ? null : press
+    },
+    name
+);
+
+// Shows a dialog from its title on, also where what got the focus lies further below. What is typed
+// into a field that has it replaces the text there.
+function showFront(dialog, heading) {
+  if (dialog.scrollTop) {
+    heading.tabIndex = -1;
+    heading.focus();
+    dialog.scrollTop = 0;
+  }
+  if (document.activeElement instanceof HTMLInputElement) document.activeElement.select();
+}
+
+/**
  * Opens a dialog and resolves to the value of the button that closed it, or to null for Escape or
  * Cancel. `content` is an element or a text; `buttons` are {name, value, main, test}: where `test`
  * gives a text, that is shown and the dialog stays; so it does where it gives true. The main one
@@ -36,17 +62,7 @@ export function openDialog(
       row.append(
           make('button', {type: 'button', onclick: () => dialog.close()}, phrase('view.cancel'))
       );
-    for (const button of buttons) {
-      row.append(make(
-          'button',
-          {
-            type: button.main ? 'submit' : 'button',
-            class: button.main && !button.isPlain ? 'main' : null,
-            onclick: button.main ? null : () => press(button)
-          },
-          button.name
-      ));
-    }
+    row.append(...buttons.map((button) => buttonOf(button, () => press(button))));
     form.addEventListener('submit', (event) => {
       event.preventDefault();
       const main = buttons.find((button) => button.main);
@@ -61,13 +77,7 @@ export function openDialog(
     });
     $('dialogs').append(dialog);
     dialog.showModal();
-    if (dialog.scrollTop) {  // what got the focus lies further below: it begins at its title
-      heading.tabIndex = -1;
-      heading.focus();
-      dialog.scrollTop = 0;
-    }
-    if (document.activeElement instanceof HTMLInputElement)
-      document.activeElement.select();  // what is typed replaces it
+    showFront(dialog, heading);
   });
 }
 

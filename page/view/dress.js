@@ -18,7 +18,7 @@ export const inkName = (doc, letter) => namesOf(doc)[LETTERS.indexOf(letter)];
 export const colourText = (letter) => `${wordOf(letter)}, ${inkName(bench.state, letter)}`;
 
 /** A colour's name with its letter, which tells it from others of that name. */
-export const letterName = (doc, letter) =>
+const letterName = (doc, letter) =>
     (letter === '.' ? phrase('view.theBackground') :
                       phrase('view.nameLetter', {name: inkName(doc, letter), letter}));
 

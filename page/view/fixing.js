@@ -1,12 +1,12 @@
-// Fix it, Easier and Harder, beside the picture: proposals of cells to repaint, to give, or some of
-// both, until the picture needs no guessing or is at least the only solution, or has a grade that
-// is aimed for. They are seen side by side, place by place; one click takes one, and one undo takes
-// it back.
+// Fix it, Easier, Harder and Later, beside the picture: proposals of cells to repaint, to give, or
+// some of both, until the picture needs no guessing or is at least the only solution, has a grade
+// that is aimed for, or is later known where it is selected. They are seen side by side, place by
+// place; one click takes one, and one undo takes it back.
 
 import {$, buttonOf, choiceOf, make, say} from '../base/elements.js';
 import {on, tell} from '../base/events.js';
 import {gradeName} from '../base/names.js';
-import {number} from '../base/words.js';
+import {capital, number} from '../base/words.js';
 import {placeOf, sameBenchPart} from '../document/document.js';
 import {LETTERS} from '../document/limits.js';
 import {cellsThatDiffer} from '../document/shapes.js';
@@ -20,12 +20,16 @@ import {actions, runAction} from './actions.js';
 import {boardOf, keptSymmetry, limitChoices, showLocks} from './locking.js';
 import {listProposals, placeText} from './proposals.js';
 import {bySize, ideas, keyOf, mirrorOf, seenOf, sizeOf} from './ranking.js';
-import {setDown} from './select.js';
+import {selectedPlaces, setDown} from './select.js';
+import {useTool} from './tools.js';
 import {searches, secondsChosen, verdictView} from './verdict.js';
 
 const GOALS = [['lines', phrase('view.noGuessing')], ['unique', phrase('view.oneSolution')]];
 const GRADES = LINE_WORDS.map((word) => [word, phrase('view.aGrade', {grade: gradeName(word)})]);
 const isGrade = (goal) => LINE_WORDS.includes(goal);
+const LATER = 'later';  // half of the selection is known later on the path
+const isAim = (goal) => isGrade(goal) || goal === LATER;  // of what lines solve
+const AS_LATER = [LATER, phrase('view.selectionKnownLater')];
 const MOST_SHOWN = 24;
 const MOST_OF_ALL = 4;  // proposals for all places together, where each is mended by itself
 const MOST_MIXED = 2;
@@ -51,8 +55,9 @@ const ADVICE = {
 };
 
 // What was found, for which picture (`of`) and goal (`by`), and what was asked for; `only` are the
-// places that may change, null where all may. It stays while a proposal is tried: an undo shows the
-// list again.
+// places that may change, null where all may; `part` are those that shall be known later, half of
+// which is known `now` at that share of the path. It stays while a proposal is tried: an undo shows
+// the list again.
 const fixing = {
   goal: 'lines',
   by: 'lines',
@@ -67,6 +72,8 @@ const fixing = {
   taken: null,
   isWanted: false,
   only: null,
+  part: null,
+  now: null,
   turn: 0,
   waits: 0
 };
@@ -78,18 +85,28 @@ export const canFix = () =>
     bench.state !== null && (bench.state.verdict.word !== 'unique' || bench.state.open > 0);
 
 /** Whether the panel has something to do: a grade may be aimed for by any picture. */
-export const mayFix = () => canFix() || (bench.state !== null && isGrade(fixing.goal));
+export const mayFix = () => canFix() || (bench.state !== null && isAim(fixing.goal));
+
+/** Whether a part of the picture may be known later: lines solve it, and it is not blank. */
+export const canDelay = () =>
+    bench.state !== null && !canFix() && bench.state.clues.rows.some((blocks) => blocks.length);
+
+const titleOf = (goal) =>
+    (goal === LATER ? phrase('view.selectionKnownLater') :
+                      phrase('view.aGrade', {grade: gradeName(goal)}));
+const areSame = (one, other) => String([...one ?? []]) === String([...other ?? []]);
 
 /**
- * Opens the panel, and looks for what mends the picture, or for what gives it a grade; in some
- * places only, where these are named.
+ * Opens the panel, and looks for what mends the picture, or for what meets a goal, a grade or
+ * 'later'; in some places only, where these are named.
  */
-export function openFix(word = null, only = null) {
-  const isSamePart = String([...only ?? []]) === String([...fixing.only ?? []]);
+export function openFix(goal = null, only = null) {
+  const isSamePart =
+      areSame(only, fixing.only) && (goal !== LATER || areSame(selectedPlaces(), fixing.part));
   fixing.only = only;
-  if (word)
-    fixing.goal = word;
-  else if (bench.state.verdict.word === 'unique' || isGrade(fixing.goal))
+  if (goal)
+    fixing.goal = goal;
+  else if (bench.state.verdict.word === 'unique' || isAim(fixing.goal))
     fixing.goal = 'lines';
   if (!mayFix()) return;
   fixing.isWanted = true;
@@ -98,11 +115,7 @@ export function openFix(word = null, only = null) {
       make(
           'div',
           {id: 'fix-head'},
-          make(
-              'h2',
-              {},
-              word ? phrase('view.aGrade', {grade: gradeName(word)}) : phrase('view.fixTitle')
-          ),
+          make('h2', {}, goal ? capital(titleOf(goal)) : phrase('view.fixTitle')),
           withIcon(buttonOf('fix-close', '', closeFix), 'close', phrase('view.close'))
       ),
       make('div', {id: 'fix-list', role: 'group', 'aria-label': phrase('view.proposals')}),
@@ -117,7 +130,7 @@ export function openFix(word = null, only = null) {
                 title: phrase('view.until'),
                 onchange: (event) => aimFor(event.target.value)
               },
-              [...(canFix() ? GOALS : []), ...GRADES],
+              [...(canFix() ? GOALS : []), ...GRADES, ...(canDelay() ? [AS_LATER] : [])],
               fixing.goal
           ),
           make('span', {id: 'fix-symmetry', class: 'faint'}),
@@ -132,7 +145,7 @@ export function openFix(word = null, only = null) {
           ...limitChoices(fixSays, showSymmetry)
       ),
   );
-  $('fix-give').hidden = isGrade(fixing.goal);
+  $('fix-give').hidden = isAim(fixing.goal);
   showLocks();
   showSymmetry();
   showAdjust(false);
@@ -143,6 +156,13 @@ export function openFix(word = null, only = null) {
     fixSays(fixing.said);
   else
     findRepairs();
+}
+
+/** Looks for what makes the selection known later; without one, the tool that selects is chosen. */
+export function openLater() {
+  if (selectedPlaces()) return openFix(LATER);
+  useTool('select');
+  return void say(phrase('view.selectForLater'));
 }
 
 // Says next to the goal which symmetry proposals keep, or that they keep to some cells.
@@ -159,7 +179,7 @@ function showAdjust(isAdvised) {
 
 function aimFor(goal) {
   fixing.goal = goal;
-  $('fix-give').hidden = isGrade(goal);  // one given cell is among what is found
+  $('fix-give').hidden = isAim(goal);  // of a grade, one given cell is among what is found
   findRepairs();
 }
 
@@ -178,6 +198,7 @@ export function hideFix() {
 export const isFixing = () => !$('fix').hidden;
 
 function closeFix() {
+  clearTimeout(fixing.waits);
   fixing.isWanted = false;
   hideFix();
 }
@@ -186,7 +207,7 @@ const fixSays = (text) => {
   if ($('fix-said')) $('fix-said').textContent = text;
 };
 
-// Runs a call of the worker on the picture at hand; null where another picture is shown by then.
+// Runs a call of the worker on the open picture; null where another picture is shown by then.
 async function searched(name, work) {
   setDown();
   await bench.rest();
@@ -247,6 +268,8 @@ function beginList() {
     near: null,
     of: bench.state,
     by: fixing.goal,
+    part: fixing.goal === LATER ? selectedPlaces() : null,
+    now: null,
     said: '',
     turn: fixing.turn + 1
   });
@@ -262,10 +285,12 @@ async function findRepairs() {
   const {goal, turn, of} = fixing;
   if (goal === 'unique' && of.verdict?.word === 'unique')
     return fixSays(phrase('view.oneSolutionThere'));
+  if (goal === LATER && (!canDelay() || !fixing.part))
+    return fixSays(canDelay() ? phrase('view.selectForLater') : phrase('view.solvedForLater'));
   const run = await searched(phrase('view.lookingRepairs'), (copy, state) => {
     fixing.of = state;
     const search = new RepairSearch(copy, state, goal);
-    return isGrade(goal) ? search.ofGrade() : search.all();
+    return goal === LATER ? search.ofPart() : isGrade(goal) ? search.ofGrade() : search.all();
   });
   if (run && turn === fixing.turn) tellFound(run.done);
 }
@@ -282,6 +307,11 @@ class RepairSearch {
   /** Proposals that have a grade. */
   ofGrade() {
     return this.ask('aim', {word: this.goal, seconds: Math.max(1, secondsChosen() - 1)});
+  }
+
+  /** Proposals by which half of a part is known later. */
+  ofPart() {
+    return this.ask('delay', {places: [...fixing.part], seconds: Math.max(1, secondsChosen() - 1)});
   }
 
   /** Cells to give, repaints, and both together. */
@@ -303,8 +333,9 @@ class RepairSearch {
     return this.copy.work(kind, {board: this.board, ...fields}, (said) => hear.call(this, said));
   }
 
-  hear({found, nearer, places, placed}) {
+  hear({found, nearer, places, placed, now}) {
     if (places) fixing.places = places;
+    if (now !== undefined) fixing.now = now;
     if (found ?? placed)
       add(this.state, found ?? placed);
     else if (nearer)
@@ -365,8 +396,8 @@ async function findAgain() {
 
 function add(state, one) {
   const isKnown = fixing.found.some(
-      (other) => other.place === one.place && other.cells && one.cells && !other.given &&
-          !one.given && keyOf(other) === keyOf(one)
+      (other) =>
+          other.place === one.place && other.isLeast === one.isLeast && keyOf(other) === keyOf(one)
   );
   if (!isKnown) fixing.found.push({...one, state, ...seenOf(state, one)});
   if (!fixing.frame) fixing.frame = requestAnimationFrame(showFound);
@@ -376,9 +407,7 @@ const repaints = () => fixing.found.filter(({cells, given}) => cells && !given).
 const wholes = () => repaints().filter(({place}) => place === undefined);
 const ofPlace = (at) => repaints().filter(({place}) => place === at);
 const mixtures = () => fixing.found.filter(({cells, given}) => cells && given).sort(bySize);
-const givens = () => fixing.found.filter(
-                                     ({cells}) => !cells
-).sort((one, other) => other.given.length - one.given.length);
+const givens = () => fixing.found.filter(({cells}) => !cells).sort(bySize);
 
 // How far the picture is from the goal, and how far what came nearer, in words.
 function farOf(state, goal, near) {
@@ -399,7 +428,7 @@ function noteOf() {
 function tellFound(done) {
   fixing.said = foundText(done);
   showFound();
-  showAdjust(!isGrade(fixing.goal) && !(wholes()[0]?.cells.length <= FEW));
+  showAdjust(!isAim(fixing.goal) && !(wholes()[0]?.cells.length <= FEW));
   fixSays(fixing.said);
 }
 
@@ -416,8 +445,19 @@ function aimedText(done) {
   );
 }
 
+// What came of the search for what is known later.
+function delayedText(done) {
+  const now = fixing.now === null ? '' : `${phrase('play.halfKnown', {share: fixing.now})} `;
+  const proposals = wholes().length;
+  const found = proposals ?
+      phrase('view.proposalsFoundChooseOne', {proposals, least: '', loose: '', see: howToSee()}) :
+      `${phrase('view.noneLater')} ${done?.isThrough ? '' : LONGER}`;
+  return `${now}${found}`.trim();
+}
+
 // What came of the search for repaints. `done` is its result, or null if it was ended before that.
 function foundText(done) {
+  if (fixing.goal === LATER) return delayedText(done);
   if (isGrade(fixing.goal)) return aimedText(done);
   const [best] = wholes();
   const advice = ADVICE[adviceOf(fixing.of)];
@@ -494,7 +534,7 @@ function groups() {
   };
   const others = {
     title: phrase('view.givesToo'),
-    items: [...mixtures().slice(0, MOST_MIXED), ...givens().slice(-1)]
+    items: [...mixtures().slice(0, MOST_MIXED), ...givens().slice(0, 1)]
   };
   return [all, ...apart, others].filter(({items}) => items.length);
 }
@@ -546,10 +586,16 @@ const HEARS = {
 
 /**
  * Shows the proposals with the picture that they are for; while they are shown, another picture
- * gets its own once the hand rests.
+ * gets its own once the user rests.
  */
 export function startFixing() {
   on('symmetry', showSymmetry);
+  on('selected', () => {
+    const part = isFixing() && fixing.goal === LATER ? selectedPlaces() : null;
+    if (!part || areSame(part, fixing.part)) return;
+    clearTimeout(fixing.waits);
+    fixing.waits = setTimeout(findRepairs, REST);
+  });
   on('shown', (state) => {
     if (fixing.taken && sameBenchPart(fixing.taken.before, state)) fixing.taken.unsay();
     if (!fixing.isWanted) return;

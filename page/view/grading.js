@@ -1,16 +1,16 @@
 // What the engine says beside the verdict: the grade, and whether the puzzle is fit to be
-// published. The second worker is asked once the hand rests, never on the way of a stroke.
+// published. The second worker is asked once the user rests, never on the way of a stroke.
 
-import {$} from '../base/elements.js';
+import {$, write} from '../base/elements.js';
 import {on, tell} from '../base/events.js';
-import {gradeName, gradePlace} from '../base/names.js';
+import {gradeName, gradeRank} from '../base/names.js';
 import {gradeIn} from '../engine/assessing.js';
 import {bench} from '../engine/bench.js';
 import {LINE_WORDS} from '../repair/aiming.js';
 import {phrase} from '../texts/phrase.js';
 import {addAction} from './actions.js';
 import {fitText} from './dress.js';
-import {openFix} from './fixing.js';
+import {canDelay, openFix, openLater} from './fixing.js';
 import {searches, secondsChosen, showVerdictButtons} from './verdict.js';
 
 const REST = 1000;  // milliseconds without a stroke or a search
@@ -26,12 +26,12 @@ const grading = {
 const isSame = (one, other) => one !== null && one.picture === other.picture &&
     one.givens === other.givens && one.colours === other.colours;
 
-// What was said of the picture at hand, or null.
-const saidAtHand = () =>
+// What was said of the open picture, or null.
+const presentAnswer = () =>
     (bench.state && grading.of && isSame(grading.of, bench.state) ? grading.said : null);
 
-/** The grade of the picture at hand, or null where there is none yet. */
-export const gradeAtHand = () => (saidAtHand() ? gradeIn(saidAtHand()) : null);
+/** The grade of the open picture, or null where there is none yet. */
+export const presentGrade = () => (presentAnswer() ? gradeIn(presentAnswer()) : null);
 
 // The figures in words.
 function figuresText({open, grade: {rounds, evaluations, wait, splits, depth}}) {
@@ -50,23 +50,23 @@ function publishText(said) {
       '–';
 }
 
-// The last grade stays, greyed, while that of the picture at hand is worked out; what is not unique
+// The last grade stays, greyed, while that of the open picture is worked out; what is not unique
 // has none.
 function showGrade() {
-  const [said, grade] = [saidAtHand(), gradeAtHand()];
+  const [said, grade] = [presentAnswer(), presentGrade()];
   if (bench.state?.verdict.word !== 'ambiguous')
     grading.shown = grade ?? grading.shown;
   else
     grading.shown = null;
   const {shown} = grading;
   $('audit').classList.toggle('old', shown !== null && grade === null);
-  $('grade-word').textContent = shown ? gradeName(shown.word) : '';
+  write($('grade-word'), shown ? gradeName(shown.word) : '');
   $('grade-dots').hidden = !shown;
-  const place = shown ? gradePlace(shown.word) : -1;
+  const place = shown ? gradeRank(shown.word) : -1;
   [...$('grade-dots').children].forEach((dot, at) => dot.classList.toggle('full', at <= place));
   if (said || !shown) {
-    $('grade').textContent = grade ? `${gradeName(grade.word)} (${figuresText(said)})` : '–';
-    $('publish').textContent = publishText(said);
+    write($('grade'), grade ? `${gradeName(grade.word)} (${figuresText(said)})` : '–');
+    write($('publish'), publishText(said));
   }
 }
 
@@ -86,20 +86,20 @@ async function work() {
     Object.assign(grading, {of: state, said});
     showGrade();
     showVerdictButtons();
-    tell('graded', gradeAtHand());
+    tell('graded', presentGrade());
   } else
     schedule();
 }
 
-// The grade that is a step easier (-1) or harder (1) than that of the picture at hand, among those
+// The grade that is a step easier (-1) or harder (1) than that of the open picture, among those
 // that line logic solves; undefined where there is none.
 function nextWord(step) {
   if (bench.state?.verdict.word !== 'unique' || bench.state.open) return undefined;
-  const at = LINE_WORDS.indexOf(gradeAtHand()?.word);
+  const at = LINE_WORDS.indexOf(presentGrade()?.word);
   return at < 0 ? undefined : LINE_WORDS[at + step];
 }
 
-/** Whether the picture at hand may be made easier. */
+/** Whether the open picture may be made easier. */
 export const canEase = () => bench.state !== null &&
     (bench.state.open > 0 || bench.state.verdict.word !== 'unique' || nextWord(-1) !== undefined);
 
@@ -118,6 +118,14 @@ export function startGrading() {
       run: () => openFix(nextWord(step)),
       can: () => nextWord(step) !== undefined
     });
+  addAction({
+    place: 'check',
+    id: 'later',
+    name: phrase('view.knownLater'),
+    hint: phrase('view.knownLaterHint'),
+    run: openLater,
+    can: canDelay
+  });
   on('opened', () => {
     grading.shown = null;
   });

@@ -210,5 +210,5 @@ export function makeGrid() {
   });
   on('judged', labelCursor);
   on('pointed', showWholes);
-  on('moved', () => showWholes(tools.drag || sheet.held ? wholes.at : null));
+  on('moved', () => showWholes(tools.drag || sheet.dragged ? wholes.at : null));
 }

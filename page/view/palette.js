@@ -23,7 +23,8 @@ import {colourText, dress, inkName, nearText} from './dress.js';
 import {setDown} from './select.js';
 import {heard, tools, useColour, whileOpen} from './tools.js';
 
-const DRAGGED = 6;  // pixels from which on a swatch is dragged
+const DRAGGED = 6;   // pixels from which on a swatch is dragged
+const MANY = 10000;  // cells that a swatch counts in thousands
 const palette = {
   row: make('div', {id: 'palette', role: 'radiogroup', 'aria-label': phrase('view.colourLabel')}),
   text: make('p', {id: 'colour-text', class: 'faint'}),
@@ -105,7 +106,7 @@ const tellColours = behindFrame(() => {
   for (const [at, button] of [...palette.row.children].entries()) {
     const {letter} = button.dataset;
     const count = counts.get(letter) ?? 0;
-    button.dataset.cells = number(count);
+    button.dataset.cells = count < MANY ? number(count) : `${Math.floor(count / 1000)}k`;
     button.title = `${colourText(letter)}: ${phrase('view.cells', {cells: count})}${
         at < 10 ? phrase('view.key', {at}) : ''}`;
   }
@@ -237,7 +238,7 @@ async function mergeColour() {
   );
   const content = make(
       'div',
-      {},
+      {class: 'rows'},
       make('p', {}, phrase('view.allCellsGetAnother', {colour: colourText(from)})),
       choice
   );
@@ -306,16 +307,16 @@ function pressSwatch(button, isArrow) {
 }
 
 function swatchKey(event) {
-  const way = {ArrowRight: 1, ArrowLeft: -1}[event.key];
-  if (!way || !event.shiftKey) return;
+  const step = {ArrowRight: 1, ArrowLeft: -1}[event.key];
+  if (!step || !event.shiftKey) return;
   event.preventDefault();
   event.stopImmediatePropagation();
-  moveAndStay(way);
+  moveAndStay(step);
 }
 
 // The swatch that was moved keeps the focus, and with it the keys.
-async function moveAndStay(way) {
-  await moveColour(way);
+async function moveAndStay(step) {
+  await moveColour(step);
   palette.row.querySelector('[aria-checked=true]')?.focus();
 }
 

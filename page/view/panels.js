@@ -1,6 +1,6 @@
 // The tool bar, and the panels for the cell that is pointed at and for its row and column.
 
-import {$, make, say} from '../base/elements.js';
+import {$, make, say, write} from '../base/elements.js';
 import {on} from '../base/events.js';
 import {markRadio, radioGroup} from '../base/radios.js';
 import {capital, lineName} from '../base/words.js';
@@ -82,14 +82,16 @@ const symmetryItems = () => Object.entries(SYMMETRY_NAMES)
                                           }
                                         },
                                         iconOf(kind),
-                                        make('span', {}, name)
+                                        make('span', {}, name),
+                                        kind === tools.symmetry ? iconOf('tick') : ''
                                     )
                                 );
 
 function showSymmetry() {
   const name = `${phrase('view.symmetry')}: ${SYMMETRY_NAMES[tools.symmetry]}`;
-  withIcon(rail.symmetry, tools.symmetry, name, 'm');
-  rail.symmetry.classList.toggle('on', tools.symmetry !== 'none');
+  const isOn = tools.symmetry !== 'none';
+  withIcon(rail.symmetry, isOn ? tools.symmetry : 'across', name, 'm');
+  rail.symmetry.classList.toggle('on', isOn);
 }
 
 // Shows which tool is taken, and returns its button.
@@ -130,7 +132,7 @@ export function showCell(at = cursor) {
     if (!state) return;
     const [row, col] =
         [Math.min(panel.at.row, state.rows - 1), Math.min(panel.at.col, state.columns - 1)];
-    panel.text.textContent = cellText(row, col);
+    write(panel.text, cellText(row, col));
     fillClue(panel.row, capital(lineName(true, row)), state.clues.rows[row]);
     fillClue(panel.column, capital(lineName(false, col)), state.clues.columns[col]);
     showLineNames();
@@ -153,8 +155,8 @@ export function keepStill() {
   const panels = $('panels');
   const stay = ({target, key = ''}) => {
     const {scrollTop} = panels;
-    const [field, room] = [target, panels].map((one) => one.getBoundingClientRect());
-    const isSeen = field.bottom > room.top && field.top < room.bottom;
+    const [field, frame] = [target, panels].map((one) => one.getBoundingClientRect());
+    const isSeen = field.bottom > frame.top && field.top < frame.bottom;
     if (isSeen && target.matches('[type=text], [type=number]') && !/^(Tab|Page)/.test(key))
       requestAnimationFrame(() => {
         panels.scrollTop = scrollTop;
@@ -177,59 +179,52 @@ export const LINE_TEXTS = {
   },
 };
 
+// The buttons of the line at the cursor: a row, or a column.
+function lineButtons(word) {
+  const isRow = word === 'row';
+  const {before, after, gone} = LINE_TEXTS[word];
+  const at = () => (isRow ? cursor.row : cursor.col) + 1;
+  const button = (text, label, lines) => make(
+      'button',
+      {
+        type: 'button',
+        'aria-label': label,
+        onclick: () => {
+          setDown();
+          sendStroke([lines()]);
+        }
+      },
+      text
+  );
+  const [first, second] = isRow ? [phrase('view.above'), phrase('view.below')] :
+                                  [phrase('view.left'), phrase('view.right')];
+  return [
+    button(first, before, () => `insert ${word} ${at()}`),
+    button(second, after, () => `insert ${word} ${at() + 1}`),
+    withIcon(button('', gone, () => `delete ${word} ${at()}`), 'delete', gone),
+    ...swapping(word, at)
+  ];
+}
+
+// What swaps the line at the cursor with another one.
+function swapping(word, at) {
+  const other = make('input', {
+    type: 'number',
+    min: 1,
+    max: MOST_CELLS,
+    'aria-label': word === 'row' ? phrase('view.otherRow') : phrase('view.otherColumn')
+  });
+  const swap = () => swapLines(word, at(), Number(other.value));
+  const button = make('button', {type: 'button', onclick: swap}, phrase('view.swap'));
+  return [button, other];
+}
+
 export function makeLinesPanel() {
   $('lines').append(make('h2', {}, phrase('view.rowsColumns')));
   for (const word of ['row', 'column']) {
-    const other = make('input', {
-      type: 'number',
-      min: 1,
-      max: MOST_CELLS,
-      'aria-label': word === 'row' ? phrase('view.otherRow') : phrase('view.otherColumn')
-    });
-    const at = () => (word === 'row' ? cursor.row : cursor.col) + 1;
-    const button = (text, label, lines) => make(
-        'button',
-        {
-          type: 'button',
-          'aria-label': label,
-          onclick: () => {
-            setDown();
-            sendStroke([lines()]);
-          }
-        },
-        text
-    );
-    $('lines').append(make(
-        'div',
-        {class: 'lines', role: 'group', 'aria-labelledby': `${word}-name`},
-        make('b', {id: `${word}-name`}),
-        button(
-            word === 'row' ? phrase('view.above') : phrase('view.left'),
-            LINE_TEXTS[word].before,
-            () => `insert ${word} ${at()}`
-        ),
-        button(
-            word === 'row' ? phrase('view.below') : phrase('view.right'),
-            LINE_TEXTS[word].after,
-            () => `insert ${word} ${at() + 1}`
-        ),
-        withIcon(
-            button('', LINE_TEXTS[word].gone, () => `delete ${word} ${at()}`),
-            'delete',
-            LINE_TEXTS[word].gone
-        ),
-        make(
-            'span',
-            {},
-            make(
-                'button',
-                {type: 'button', onclick: () => swapLines(word, at(), Number(other.value))},
-                phrase('view.swap')
-            ),
-            ' ',
-            other
-        )
-    ));
+    const name = make('b', {id: `${word}-name`});
+    const group = {class: 'lines', role: 'group', 'aria-labelledby': `${word}-name`};
+    $('lines').append(make('div', group, name, ...lineButtons(word)));
   }
 }
 
@@ -242,6 +237,6 @@ function swapLines(word, at, other) {
 }
 
 function showLineNames() {
-  $('row-name').textContent = capital(lineName(true, cursor.row));
-  $('column-name').textContent = capital(lineName(false, cursor.col));
+  write($('row-name'), capital(lineName(true, cursor.row)));
+  write($('column-name'), capital(lineName(false, cursor.col)));
 }

@@ -45,9 +45,9 @@ function zoomAt(cell, x, y) {
 }
 
 /** Zooms by a step, at the middle. */
-export function zoomBy(way) {
+export function zoomBy(direction) {
   const {geometry} = sheet;
-  if (geometry.zoom(geometry.step(way, 6))) sheet.redrawAll();
+  if (geometry.zoom(geometry.step(direction, 6))) sheet.redrawAll();
 }
 
 // The step that a wheel makes: 1, -1, or 0 where it has not rolled far enough since the last one.
@@ -58,9 +58,9 @@ function wheelStep({deltaY, deltaMode, ctrlKey, timeStamp}) {
   wheel.rolled = isFirst ? Math.sign(deltaY) * NOTCH :
                            wheel.rolled + deltaY * (deltaMode ? 30 : 1) * (ctrlKey ? 5 : 1);
   if (Math.abs(wheel.rolled) < NOTCH) return 0;
-  const way = wheel.rolled < 0 ? 1 : -1;
+  const direction = wheel.rolled < 0 ? 1 : -1;
   wheel.rolled = 0;
-  return way;
+  return direction;
 }
 
 function pinchTo() {
@@ -79,7 +79,7 @@ function pointerDown(event) {
   pointers.set(event.pointerId, placeOfEvent(event));
   if (pointers.size === 2) {
     dropDrag();
-    sheet.hold(null);
+    sheet.markDragged(null);
     tell('pointed', null);
     const at = spanOf(pointers);
     pinch = {...at, from: at.far, cell: sheet.geometry.cell};
@@ -107,7 +107,7 @@ function holdLine(at) {
   const isRow = at.part === 'row';
   moveCursor(isRow ? at.row : cursor.row, isRow ? cursor.col : at.col);
   const line = isRow ? at.row : at.col;
-  sheet.hold({axis: isRow ? 'r' : 'c', word: at.part, from: line, to: line});
+  sheet.markDragged({axis: isRow ? 'r' : 'c', word: at.part, from: line, to: line});
 }
 
 function pointerMove(event) {
@@ -121,7 +121,7 @@ function pointerMove(event) {
   }
   const at = sheet.under(event);
   sheet.view.classList.toggle('over-clue', at.part === 'row' || at.part === 'column');
-  if (sheet.held) return dragLine(at);
+  if (sheet.dragged) return dragLine(at);
   if (tools.drag) {
     const last = tools.drag.last ?? tools.drag.from;
     if (at.row === last.row && at.col === last.col) return;
@@ -136,10 +136,10 @@ function pointerMove(event) {
 }
 
 function dragLine(at) {
-  const line = sheet.held.axis === 'r' ? at.row : at.col;
-  if (line === sheet.held.to) return;
-  sheet.hold({...sheet.held, to: line});
-  tell('pointed', {...at, part: sheet.held.word});
+  const line = sheet.dragged.axis === 'r' ? at.row : at.col;
+  if (line === sheet.dragged.to) return;
+  sheet.markDragged({...sheet.dragged, to: line});
+  tell('pointed', {...at, part: sheet.dragged.word});
 }
 
 function pointerUp(event) {
@@ -153,19 +153,21 @@ function pointerUp(event) {
     sheet.view.classList.remove('panning');
     return;
   }
-  const {held} = sheet;
-  const isTap = held !== null &&
-      held.from === held.to;  // what a finger shows by a tap on a clue stays until the next one
+  const {dragged} = sheet;
+  const isTap = dragged !== null &&
+      dragged.from ===
+          dragged.to;  // what a finger shows by a tap on a clue stays until the next one
   if (event.pointerType === 'touch' && !isTap) tell('pointed', null);
-  if (!held) return void endDrag();
-  sheet.hold(null);
-  if (held.from !== held.to) sendStroke([`swap ${held.word} ${held.from + 1} ${held.to + 1}`]);
+  if (!dragged) return void endDrag();
+  sheet.markDragged(null);
+  if (dragged.from !== dragged.to)
+    sendStroke([`swap ${dragged.word} ${dragged.from + 1} ${dragged.to + 1}`]);
 }
 
 function pointerLost(event) {
   pointers.delete(event.pointerId);
   if (!pointers.size) pinch = panning = null;
-  if (sheet.state) sheet.hold(null);
+  if (sheet.state) sheet.markDragged(null);
   dropDrag();
 }
 
@@ -186,8 +188,8 @@ export function hearPointers() {
     event.preventDefault();
     if (event.shiftKey) return panBy(event.deltaY || event.deltaX, 0);
     if (event.deltaX && !event.deltaY) return panBy(event.deltaX, 0);
-    const way = wheelStep(event);
-    if (way) zoomAt(sheet.geometry.step(way, 8), event.clientX, event.clientY);
+    const direction = wheelStep(event);
+    if (direction) zoomAt(sheet.geometry.step(direction, 8), event.clientX, event.clientY);
   }, {passive: false});
   addEventListener('keydown', (/** @type {any} */ event) => {
     if (event.key !== ' ' || takesKeys(event.target) ||

@@ -10,6 +10,7 @@ import {boxAround} from '../document/regions.js';
 import {cutOut} from '../document/shapes.js';
 import {givenCorners} from '../draw/board.js';
 import {drawTwice} from '../draw/marks.js';
+import {sheet} from '../draw/sheet.js';
 import {smallPicture} from '../draw/small.js';
 import {LINE_WORDS} from '../repair/aiming.js';
 import {phrase} from '../texts/phrase.js';
@@ -66,7 +67,7 @@ function drawChanges(canvas, {state, cells = [], given = []}, box) {
         pen,
         1,
         [3.5, 2],
-        {ink: '#c8321e'},
+        {ink: sheet.inks.alarm},
         () => pen.strokeRect(x - 0.5, y - 0.5, side + 1, side + 1)
     );
   }
@@ -119,7 +120,8 @@ const namedOf = (state, places) =>
 
 // What a repaint leaves, where that is not all: how far it is from the goal, or what is to be
 // guessed then.
-function leftOf({goal, far, open}) {
+function leftOf({goal, far, open, share}) {
+  if (goal === 'later') return phrase('view.thenKnownAt', {share});
   if (LINE_WORDS.includes(goal)) return phrase('view.thenGrade', {grade: gradeName(goal)});
   if (far) return phrase('view.nearerOnly', {far});
   if (goal === 'lines' || open === undefined) return '';
@@ -141,7 +143,7 @@ function paintedText({state, cells}) {
 const givenText = ({state, given, isLeast}) => `${phrase('view.cells', {cells: given.length})}${
     isLeast ? phrase('view.fewest') : ''}: ${namedOf(state, given)}`;
 
-/** All that is told of a proposal. */
+/** All that is said of a proposal. */
 export function textOf(one) {
   if (!one.cells) return phrase('view.give', {given: givenText(one)});
   return one.given ? `${phrase('view.repaint')}${paintedText(one)}${
@@ -157,12 +159,13 @@ function spotOf({state: {columns}, cells = [], given = []}) {
 }
 
 // The few words below its picture.
-function shortOf({cells, given, goal, far, open}) {
+function shortOf({cells, given, goal, far, open, share}) {
   if (far) return phrase('view.closer');
   const counts = [
     cells && phrase('view.cells', {cells: cells.length}),
     given && phrase('view.givenShort', {cells: given.length})
   ].filter(Boolean).join(' + ');
+  if (goal === 'later') return `${counts}, ${phrase('view.knownAt', {share})}`;
   return goal === 'unique' && open ? `${counts}, ${phrase('view.guessShort', {cells: open})}` :
                                      counts;
 }
@@ -170,7 +173,7 @@ function shortOf({cells, given, goal, far, open}) {
 const since = new WeakMap();  // of items: when they came to where another was
 
 // A proposal as an item of a list. One that comes to lie under a pointer is shown once that moves,
-// and taken once a hand can have aimed at it.
+// and taken once a user can have aimed at it.
 function proposalItem(one, {take, keep, preview, isKept}) {
   const show = () => preview(one);
   const press = ({detail, target}) => {

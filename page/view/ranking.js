@@ -25,8 +25,12 @@ export const mirrorOfPens = (picture, symmetry) =>
 
 const codesOf = (cells) => cells.map(({index, colour}) => index * 16 + colour);
 
-/** A text for what a repaint paints. */
-export const keyOf = ({cells}) => codesOf(cells).sort((one, other) => one - other).join();
+// What a proposal paints and gives.
+const numbersOf = ({cells = [], given = []}
+) => [codesOf(cells), given].flatMap((list) => [...list].sort((one, other) => one - other));
+
+/** A text for that. */
+export const keyOf = (one) => `${one.cells?.length}: ${numbersOf(one)}`;
 
 // How much a cell's new colour is seen: by how far it is from the old one, less where more of its
 // neighbours have it, as in a notch.
@@ -57,11 +61,24 @@ export function seenOf(state, {cells = [], pain = 0}) {
 
 /** How many cells a proposal changes. */
 export const sizeOf = ({cells = [], given = []}) => cells.length + given.length;
+
+// Numbers by which proposals are ordered; of those by which a part is known later, the latest come
+// first. What is alike in all else goes by its places, so that no list depends on what was found
+// first.
+const ranksOf = (one) =>
+    [Number(one.breaks),
+     Number(one.goal !== 'lines' && one.open > 0),
+     -(one.share ?? 0),
+     sizeOf(one),
+     one.seen,
+     -Number(one.isLeast ?? false),
+     ...numbersOf(one)];
+
 /** The order of proposals. */
-export const bySize = (one, other) => Number(one.breaks) - Number(other.breaks) ||
-    Number(one.goal !== 'lines' && one.open > 0) -
-        Number(other.goal !== 'lines' && other.open > 0) ||
-    sizeOf(one) - sizeOf(other) || one.seen - other.seen;
+export function bySize(one, other) {
+  const others = ranksOf(other);
+  return ranksOf(one).map((rank, at) => rank - others[at]).find(Boolean) ?? 0;
+}
 
 /**
  * Repaints about as small as the smallest, and those that are `kept`. What shares no cell with any

@@ -1,6 +1,6 @@
 // The safe brush: dots near the pointer where the chosen colour would cost a puzzle its one
 // solution, or that lines solve it; and strokes that paint only what costs neither. The second
-// worker is asked once the hand rests, never on the way of a stroke.
+// worker is asked once the user rests, never on the way of a stroke.
 
 import {say} from '../base/elements.js';
 import {behindFrame, on} from '../base/events.js';
@@ -23,7 +23,7 @@ const safe = {
   only: false,    // whether strokes paint only what is safe
   isHeld: false,  // or do so now, by a key
   at: null,       // where the pointer or the cursor is
-  of: null,       // what is known of it, by the colour at hand
+  of: null,       // what is known of it, by the present colour
   letter: '',
   known: new Map(),  // places to what was said of them
   timer: 0
@@ -76,12 +76,12 @@ async function ask() {
   const {known, letter} = safe;
   const places = placesToAsk(state).filter((place) => !known.has(place));
   if (!places.length) return undefined;
-  const told = (marks) => {
+  const take = (marks) => {
     for (const [place, mark] of marks) known.set(place, mark);
     showLater();
   };
   const done = await searches.job('', MOST_SECONDS, async (copy) => {
-    await askMarks(copy, state, {places, letter, goal}, told);
+    await askMarks(copy, state, {places, letter, goal}, take);
     return true;
   });
   return done ? undefined : schedule();

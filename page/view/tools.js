@@ -11,7 +11,16 @@ import {SYMMETRIES, cellsWith, isPossible} from '../document/symmetry.js';
 import {sheet} from '../draw/sheet.js';
 import {bench} from '../engine/bench.js';
 import {phrase} from '../texts/phrase.js';
-import {alongSelect, beginSelect, endSelect, isSelected, selectPlaces, selectedPlaces, selectionBoxes, setDown} from './select.js';
+import {
+  alongSelect,
+  beginSelect,
+  endSelect,
+  isSelected,
+  selectPlaces,
+  selectedPlaces,
+  selectionBoxes,
+  setDown
+} from './select.js';
 
 export const TOOLS = {
   pencil: {name: phrase('view.pencil'), key: 'p', hint: phrase('view.dragPaintRightButton')},
@@ -199,7 +208,7 @@ export function dropDrag() {
   sheet.drawMarks();
 }
 
-export const paintCells = (cells, letter = tools.colour) =>
+const paintCells = (cells, letter = tools.colour) =>
     paintPlaces(new Set(cells.map(indexAt)), letter);
 
 /** Places in one colour, or those of them that a guard lets through. */
@@ -286,7 +295,7 @@ export async function heard(promise) {
   }
 }
 
-/** What is waited for; null, told, where another picture than now is open by then. */
+/** What is waited for; null, reported, where another picture than now is open by then. */
 export async function whileOpen(promise) {
   const {term} = bench;
   const value = await promise;

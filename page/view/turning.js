@@ -147,12 +147,12 @@ export function startTurning() {
   for (const name of ['shown', 'judged']) on(name, show);
 }
 
-/** Fills the panel. */
+/** Makes the last section of the panel: it comes and goes, and moves nothing above it. */
 export function showTurningPanel() {
-  $('details').append(make(
-      'div',
-      {id: 'turns', hidden: true},
-      make('h3', {}, phrase('view.whatCanTurn')),
+  $('details').after(make(
+      'section',
+      {id: 'turns', hidden: true, 'aria-label': phrase('view.whatCanTurn')},
+      make('h2', {}, phrase('view.whatCanTurn')),
       make('p', {id: 'turns-said', role: 'status'}),
       make('div', {
         id: 'turns-list',

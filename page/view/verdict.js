@@ -1,7 +1,7 @@
 // The panel that tells the verdict: its words, the second picture, hatching with its legend, the
 // time of searches, and the line that tells what is searched.
 
-import {$, choiceOf, fieldOf, make, say} from '../base/elements.js';
+import {$, choiceOf, fieldOf, make, say, write} from '../base/elements.js';
 import {on} from '../base/events.js';
 import {GRADES, verdictTitle} from '../base/names.js';
 import {capital, linesText} from '../base/words.js';
@@ -35,7 +35,7 @@ export const secondsChosen = () => Number(verdictView.seconds) || Infinity;
 export const searches = new Searches({
   start: startEngine,
   seconds: secondsChosen,
-  told: showTask,
+  progress: showTask,
   judged: (verdict) => bench.takeVerdict(bench.state, verdict),
   ended(_name, why) {
     verdictView.ended = why;
@@ -141,15 +141,15 @@ function showHatching(state) {
   const fitting = isFixing() && state.open ?
       'open' :
       {unique: 'off', ambiguous: 'differing', undecided: 'open'}[state.verdict.word];
-  sheet.hatching = verdictView.hatching ?? fitting;
-  $('hatching').value = sheet.hatching;
-  $('legend').textContent = {
+  const hatching = verdictView.hatching ?? fitting;
+  if (sheet.hatching !== hatching) sheet.redraw();
+  sheet.hatching = $('hatching').value = hatching;
+  write($('legend'), {
     off: '',
     differing: state.verdict.other ? phrase('view.framedCellsDiffer') :
                                      phrase('view.noOtherPictureKnown'),
     open: phrase('view.hatchedCells'),
-  }[sheet.hatching];
-  sheet.redraw();
+  }[hatching]);
 }
 
 // In how many cells the other picture differs: counted once for each verdict.
@@ -170,7 +170,7 @@ function differCount({verdict, picture}) {
 const isBlank = ({verdict, clues}) =>
     verdict.word === 'unique' && clues.rows.every((blocks) => !blocks.length);
 
-// The verdict: its name, a sentence for the panel, and all that is told of it.
+// The verdict: its name, a sentence for the panel, and all that is said of it.
 function verdictTexts(state) {
   const {verdict, givens, open} = state;
   const count = state.rows * state.columns;
@@ -215,24 +215,26 @@ const titleOf = (name) => TITLES[name] ?? verdictTitle(name);
 
 function showVerdict(state) {
   if (!state) return;
-  const [name, short, told] = verdictTexts(state);
+  const [name, short, why] = verdictTexts(state);
   const {word} = state.verdict;
   $('audit').dataset.word = isBlank(state) ? '' : word;
   if ($('verdict').dataset.name !== name) {
     $('verdict').dataset.name = name;
     $('verdict').replaceChildren(iconOf(name), titleOf(name));
   }
-  $('verdict-why').textContent = told;
-  $('verdict-short').textContent = $('verdict-short').title = short;
-  $('open').textContent =
-      phrase('view.openOfCells', {open: state.open, cells: state.rows * state.columns});
-  $('changed').textContent =
-      [state.changed.rows, state.changed.columns]
-          .map((lines, axis) => linesText(axis === 0, [...lines].map((at) => at + 1)))
-          .filter(Boolean)
-          .join('; ') ||
+  write($('verdict-why'), why);
+  write($('verdict-short'), short);
+  $('verdict-short').title = short;
+  write(
+      $('open'), phrase('view.openOfCells', {open: state.open, cells: state.rows * state.columns})
+  );
+  const changed = [state.changed.rows, state.changed.columns]
+                      .map((lines, axis) => linesText(axis === 0, [...lines].map((at) => at + 1)))
+                      .filter(Boolean)
+                      .join('; ') ||
       phrase('view.none');
-  $('changed').title = $('changed').textContent;
+  write($('changed'), changed);
+  $('changed').title = changed;
   if (word !== 'ambiguous') sheet.other = false;
   showVerdictButtons();
 }
@@ -240,15 +242,17 @@ function showVerdict(state) {
 /** What is done next comes first, in the page's blue: a puzzle is mended, and then published. */
 export function showVerdictButtons() {
   for (const button of $('verdict-do').querySelectorAll('[data-action]'))
-    button.hidden = !actions.get(button.dataset.action).can();
+    button.hidden = !actions.get(button.dataset.action).can() ||
+        (button.dataset.action === 'publish' && !isWord('unique'));
   for (const button of $('details-do').children)
     button.disabled = !actions.get(button.dataset.action).can();
   const [fix, publish, other, search] = ['fix', 'publish', 'other', 'search'].map(
       (id) => $('verdict-do').querySelector(`[data-action="${id}"]`)
   );
-  publish.hidden ||= !isWord('unique');
   publish.disabled = isBlank(bench.state);
-  publish.classList.toggle('main', fix.hidden && !publish.disabled);
+  const isReady = isWord('unique') && !publish.disabled;
+  publish.classList.toggle('main', isReady);
+  fix.classList.toggle('main', !isReady);
   const name = sheet.other ? phrase('view.backYourPicture') : phrase('view.showOtherPicture');
   withIcon(other, 'other', name, 'x').setAttribute('aria-pressed', sheet.other === true);
   withIcon(
@@ -268,7 +272,7 @@ function showTask(task) {
     showVerdict(bench.state);
     return;
   }
-  if ($('task-name').textContent !== task.name) $('task-name').textContent = task.name;
+  write($('task-name'), task.name);
   const seconds = Math.min(task.seconds, secondsChosen());  // what is beyond is there to end in
   const of = Number.isFinite(seconds) ? phrase('view.of', {seconds}) : '';
   $('task-time').textContent =
@@ -283,7 +287,8 @@ function showOther(other) {
 }
 
 /**
- * A certificate of the present picture as a text, or null; what is found is told as the verdict.
+ * A certificate of the present picture as a text, or null; what is found is reported as the
+ * verdict.
  */
 export async function certificateText() {
   if (isWord('ambiguous')) {
@@ -353,6 +358,7 @@ export function startVerdict() {
     verdictView.hatching = null;
   });
   on('fixing', (is) => {
+    $('work').classList.toggle('fixing', is);
     if (is && $('panels').classList.contains('open'))
       turnMore();  // on a small screen it would cover the proposals
     showHatching(bench.state);
@@ -388,10 +394,9 @@ export function showVerdictPanel() {
   });
   $('verdict-do')
       .append(
-          ...['fix', 'publish', 'play', 'other', 'search'].map(button),
+          ...['publish', 'fix', 'play', 'other', 'search'].map(button),
           withIcon(help, 'help', phrase('view.help')),
           withIcon(more, 'more', phrase('view.more'))
       );
-  $('verdict-do').querySelector('[data-action="fix"]').classList.add('main');
-  $('details-do').append(...['easier', 'harder', 'walk'].map(button));
+  $('details-do').append(...['easier', 'harder', 'later', 'walk'].map(button));
 }
