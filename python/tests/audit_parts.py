@@ -12,6 +12,8 @@ import time
 import unittest
 from pathlib import Path
 
+from nonobench.collection.finding import ENDINGS
+
 PATIENCE = 300  # seconds after which what is waited for counts as what does not come
 # Processes of a run that names no other number: each costs more than most tests ask of it.
 JOBS = "1" if os.environ.get("SHORT") else "2"
@@ -119,12 +121,19 @@ class Case(unittest.TestCase):
         self.site = self.folder / "site"
         self.site.mkdir()
 
-    def put(self, name, data):
-        """A file of the collection."""
-        place = self.site / name
+    def put(self, name, data, folder="site"):
+        """A file of the collection, or of another folder."""
+        place = self.folder / folder / name
         place.parent.mkdir(parents=True, exist_ok=True)
         place.write_bytes(data if isinstance(data, bytes) else data.encode())
         return place
+
+    def put_for(self, name, folder="site", **parts):
+        """What belongs to a puzzle, whatever the rule of names calls it: its certificate, its
+        givens or its background."""
+        for ending, what in ENDINGS.items():
+            if what in parts:
+                self.put(name + ending, parts[what], folder)
 
     def words(self, *words):
         """The command line of a run, apart from the folder that it runs in. Where no bound is
@@ -165,6 +174,11 @@ class Case(unittest.TestCase):
         done = self.run_audit(*words, "--jsonl", "rows.jsonl", status=status, **more)
         self.assertNotIn("Traceback", done.stderr)
         return self.read("rows.jsonl")
+
+    def files(self, folder):
+        """The paths of the files below a folder."""
+        path = self.folder / folder
+        return sorted(str(one.relative_to(path)) for one in path.rglob("*") if one.is_file())
 
     def read(self, name):
         """The rows of a file, by their names."""

@@ -55,6 +55,8 @@ TEXTS = {
 SAVED = '<solution type="saved" id="givens"><image>|X?||??|</image></solution>'
 # A puzzle that no search decides in a second.
 HARD = p3_of_letters(chequered(60, 4))
+# A text of XML takes many times its length of memory.
+WIDE = "<puzzle>" + "<a/>" * 4_000_000 + "</puzzle>"
 
 
 class Names(Case):
@@ -111,7 +113,7 @@ class Names(Case):
         found = []
         for row in map(json.loads, (folder / "rows.jsonl").read_text().splitlines()):
             why = row.get("error", "")
-            called = re.fullmatch(r"it is of no puzzle: the \w+ is called (.+)", why)
+            called = re.fullmatch(r"it belongs to no puzzle: rename it to (.+)", why)
             if called:
                 found.append(("of_none", f"{row['file']}: {called[1]}"))
             elif why:
@@ -157,10 +159,6 @@ class Names(Case):
         self.assertEqual(rows["dark.ppm"]["verdict"], "error")
         self.run_audit("pairs", "--certified", status=0)
 
-    def files(self, folder):
-        path = self.folder / folder
-        return sorted(str(one.relative_to(path)) for one in path.rglob("*") if one.is_file())
-
 
 class Folders(Case):
     """What a run is over."""
@@ -195,33 +193,47 @@ class Folders(Case):
             rows = list(map(json.loads, done.stdout.splitlines()))
             self.assertEqual([row["verdict"] for row in rows], ["ambiguous", "unique", "error"])
             self.assertEqual(rows[2]["error"], "No such file or directory")
-        done = self.run_audit("--files-from", "names", "--certify", "x", status=1)
-        done = self.run_audit("--files-from", "-", "--certify", "x", input="/etc/passwd\n")
-        self.assertEqual(done.returncode, 3)
-        self.assertIn("/etc/passwd: no place below", done.stderr)
+        self.run_audit("--files-from", "names", "--certify", "x", status=1)
+        self.assertEqual(self.files("x"), ["site/one.ppm.cert"])
+        for words, more, why in (
+            (["-", "--certify", "x"], {"input": "/etc/passwd\n"}, "a path must be relative"),
+            (["names", "--jsonl", "names"], {}, "'names' is an input, or another output"),
+            (["names", "--csv", "./site/gone.ppm"], {}, "is an input, or another output"),
+            (["-", "--jsonl", "one"], {"input": "one\n"}, "'one' is an input"),
+            (["-"], {"input": "one.ppm\0two.ppm\0"}, "there must be one name per line"),
+            (["missing"], {}, "--files-from 'missing': No such file or directory"),
+        ):
+            with self.subTest(words):
+                done = self.run_audit("--files-from", *words, status=2, **more)
+                self.assertIn(why, done.stderr)
+        self.assertEqual((self.folder / "names").read_text(), names)
 
     def test_arguments_that_do_not_go_together(self):
         self.put("one.ppm", p3(UNIQUE))
+        self.put("one.ppm.ppm", p3(UNIQUE))
         (self.folder / "other").mkdir()
+        (self.folder / "file").touch()
         path = str(self.site / "one.ppm")
         for words, why in (
-            ([], "name a folder, or files"),
+            ([], "name a folder, or files, or --files-from FILE"),
             (["nothing"], "no such file or folder"),
             (["site", "other"], "name one folder, or files"),
-            (["site", "--files-from", "-"], "goes without a PATH"),
-            ([path, "--certify", "x"], "has no place below"),
+            (["site", "--files-from", "-"], "name a folder, or files, or --files-from FILE"),
+            ([path, "--certify", "x"], "a path must be relative, without '..'"),
             (["../x/site/one.ppm", "--beside", "other"], "no such file"),
-            (["other/../site/one.ppm", "--ppm", "x"], "has no place below"),
-            (["site", "--jsonl", "site/rows.jsonl"], "lies in 'site', which is searched"),
-            (["site", "--certify", "site"], "lies in 'site', which is searched"),
-            (["site", "--ppm", "site/made"], "lies in 'site', which is searched"),
+            (["other/../site/one.ppm", "--ppm", "x"], "a path must be relative, without '..'"),
+            (["site", "--jsonl", "site/rows.jsonl"], "is in 'site', which is searched"),
+            (["site", "--certify", "site"], "is in 'site', which is searched"),
+            (["site", "--ppm", "site/made"], "is in 'site', which is searched"),
+            (["site/one.ppm", "site/one.ppm.ppm", "--ppm", "."], "an output for 'site/one.ppm'"),
+            (["site", "--ppm", "file"], "'file' is no folder"),
             (["site/one.ppm", "--csv", "site/one.ppm"], "is an input, or another output"),
             (["site", "--csv", "x", "--jsonl", "./x"], "is an input, or another output"),
-            (["site", "--html", "other"], "is no name for an output"),
-            (["site", "--csv", "-", "--jsonl", "-"], "room for one"),
-            (["site", "--html", "-"], "room for one"),
-            (["site", "--resume"], "--resume goes with"),
-            (["site", "--resume", "--jsonl", "-"], "--resume goes with"),
+            (["site", "--html", "other"], "an output cannot be called 'other'"),
+            (["site", "--csv", "-", "--jsonl", "-"], "cannot both be standard output"),
+            (["site", "--html", "-"], "--html and --sqlite need a file"),
+            (["site", "--resume"], "--resume needs --jsonl FILE or --sqlite FILE"),
+            (["site", "--resume", "--jsonl", "-"], "--resume needs"),
             (["site", "--certified", "--certify", "x"], "makes no certificates"),
             (["site", "--beside", "nothing"], "no such folder"),
             (["site", "--jobs", "0"], "must be 1 to"),
@@ -234,7 +246,7 @@ class Folders(Case):
         ):
             with self.subTest(words):
                 self.assertIn(why, self.run_audit(*words, status=2).stderr)
-        self.assertEqual(sorted(os.listdir(self.folder)), ["other", "site"])
+        self.assertEqual(sorted(os.listdir(self.folder)), ["file", "other", "site"])
 
     def test_status(self):
         self.put("one.ppm", p3(UNIQUE))
@@ -285,16 +297,13 @@ class Strangers(Case):
             (rows["dark.xml"]["verdict"], rows["dark.xml"]["error"], rows["dark.xml"]["fit"]),
             ("error", why, False),
         )
-        ours = self.folder / "ours"
-        ours.mkdir()
-        (ours / "given.xml.givens").write_text("given 2 2\n")
+        self.put_for("given.xml", "ours", givens="given 2 2\n")
         row = self.rows("site", "--untrusted", "--beside", "ours")["given.xml"]
         self.assertEqual((row["verdict"], row["givens"]), ("unique", [[2, 2]]))
 
     def test_what_lies_beside(self):
         self.put("two.ppm", p3(AMBIGUOUS))
-        self.put("two.ppm.givens", "given 1 1\n")
-        self.put("two.ppm.cert", GIVEN_CERT)
+        self.put_for("two.ppm", givens="given 1 1\n", certificate=GIVEN_CERT)
         row = self.rows("site")["two.ppm"]
         self.assertEqual((row["verdict"], row["fit"]), ("unique", True))
         self.assertEqual(row["certificate"], {"accepted": True, "givens": [[1, 1]]})
@@ -322,7 +331,9 @@ class Strangers(Case):
         self.put("moon.ppm", p3(UNIQUE))
         self.put("moon.ppm.Background", "0,0,40")
         row = self.rows("site/moon.ppm", status=1)["site/moon.ppm"]
-        self.assertIn("its background is called moon.ppm.background", row["error"])
+        self.assertIn(
+            "rename its background moon.ppm.Background to moon.ppm.background", row["error"]
+        )
 
 
 class Rows(Case):
@@ -357,12 +368,11 @@ class Rows(Case):
         self.put("one.png", image("PNG"))
         self.put("blank.ppm", p3(["..", ".."]))
         self.put("two.ppm", p3(AMBIGUOUS))
-        self.put("two.ppm.cert", GIVEN_CERT)
+        self.put_for("two.ppm", certificate=GIVEN_CERT)
         self.put("given.ppm", p3(AMBIGUOUS))
-        self.put("given.ppm.givens", "given 1 1\n")
-        self.put("given.ppm.cert", GIVEN_CERT)
+        self.put_for("given.ppm", givens="given 1 1\n", certificate=GIVEN_CERT)
         self.put("many.ppm", p3(UNIQUE))
-        self.put("many.ppm.givens", "given 1 1\n")
+        self.put_for("many.ppm", givens="given 1 1\n")
         self.put("title.xml", webpbn(UNIQUE, "A title", more=SAVED))
         self.put("bad.ppm", "P3 9")
         self.put("hard.ppm", HARD)
@@ -436,7 +446,7 @@ class Rows(Case):
         self.put("blank.ppm", p3(["..", ".."]))
         self.put("near.ppm", b"P3 2 1 255  255 255 255  250 250 250\n")
         self.put("given.ppm", p3(UNIQUE))
-        self.put("given.ppm.givens", "given 1 1\n")
+        self.put_for("given.ppm", givens="given 1 1\n")
         rows = self.rows("site", status=1)
         flaws = {name: row["flaws"] for name, row in rows.items()}
         wanted = {"blank.ppm": ["blank"], "given.ppm": ["given 1 1"], "near.ppm": ["alike . a"]}
@@ -558,9 +568,9 @@ class Loop(Case):
         rows.close()
 
     def test_who_leaves_the_loop_waits_for_nothing(self):
-        """Each of these puzzles would take all of the time."""
+        """Each of the puzzles behind the first ones would take all of the time."""
         before = children(os.getpid())
-        puzzles = [*[("one.ppm", p3(UNIQUE))] * 8, *[("hard.ppm", HARD)] * 200]
+        puzzles = [*[("one.ppm", p3(UNIQUE))] * 16, *[("hard.ppm", HARD)] * 200]
         rows = audit(puzzles, Options(seconds=PATIENCE))
         self.assertEqual(next(rows)["verdict"], "unique")
         rows.close()
@@ -580,18 +590,18 @@ class Loop(Case):
         self.assertEqual({row["verdict"] for row in rows.values()}, {"unique", "undecided"})
         hard = rows["hard.ppm"]
         self.assertEqual(hard["limit"], {"seconds": 1, "memory": 1024})
-        self.assertEqual(hard["notes"], ["no answer within its processor time"])
+        # On a busy machine the clock comes first.
+        self.assertRegex(hard["notes"][0], "^no answer within (its processor time|10 seconds)$")
         hard = self.rows("site", "--max-guesses", "10", status=1)["hard.ppm"]
         self.assertEqual((hard["verdict"], hard["limit"]["guesses"]), ("undecided", 10))
         self.assertNotIn("seconds", hard)
 
     def test_a_puzzle_that_takes_too_much_memory(self):
-        # A text of XML takes many times its length.
-        self.put("wide.xml", "<puzzle>" + "<a/>" * 4_000_000 + "</puzzle>")
+        self.put("wide.xml", WIDE)
         self.put("one.ppm", p3(UNIQUE))
         rows = self.rows("site", "--memory", "200", status=1)
         self.assertEqual(rows["wide.xml"]["verdict"], "undecided")
-        self.assertEqual(rows["wide.xml"]["notes"], ["not within its memory"])
+        self.assertEqual(rows["wide.xml"]["notes"], ["no answer within its memory"])
         self.assertEqual(rows["one.ppm"]["verdict"], "unique")
 
     def test_the_same_rows_however_many_work(self):
@@ -686,12 +696,12 @@ class Resume(Case):
         self.assertEqual(self.kept("site"), ["large/a.ppm", "large/b.ppm"])
 
     def test_limits(self):
-        self.put("hard.ppm", HARD)
+        self.put("wide.xml", WIDE)
         self.put("one.ppm", p3(UNIQUE))
-        self.rows("site", "--seconds", "1")
+        self.rows("site", "--memory", "200")
         self.marked()
-        self.assertEqual(self.kept("site", "--seconds", "1"), ["hard.ppm", "one.ppm"])
-        self.assertEqual(self.kept("site", "--seconds", "2"), ["one.ppm"])
+        self.assertEqual(self.kept("site", "--memory", "200"), ["one.ppm", "wide.xml"])
+        self.assertEqual(self.kept("site", "--memory", "201"), ["one.ppm"])
 
     def test_certificates_that_are_not_there_are_made_again(self):
         for name in ("a.ppm", "b.ppm"):
@@ -725,8 +735,8 @@ class Resume(Case):
         (self.site / "gone.ppm").unlink()
         said = self.run_audit(*words, status=1).stderr
         self.assertEqual(sorted(os.listdir(self.folder / "certs")), ["b.ppm.cert", "gone.ppm.cert"])
-        self.assertIn("certs: 1 files of no puzzle of this run", said)
-        self.assertIn("pairs: 2 files of no puzzle of this run", said)
+        self.assertIn("certs: 1 file belongs to no puzzle of this run", said)
+        self.assertIn("pairs: 2 files belong to no puzzle of this run", said)
         self.assertFalse((self.folder / "pairs" / "a.ppm.ppm").exists())
 
     def test_files_under_another_name_are_made_again(self):
@@ -776,7 +786,7 @@ class Resume(Case):
         eventually(path.exists)
         for words in zip(outputs[::2], outputs[1::2]):
             done = self.run_audit("site/a.ppm", *words, "--quiet", status=3)
-            self.assertIn(f"another run writes {words[1]}", done.stderr)
+            self.assertIn(f"another run is writing {words[1]}", done.stderr)
         process.send_signal(signal.SIGINT)
         process.communicate(timeout=PATIENCE)
         self.run_audit("site/a.ppm", *outputs, status=0)
@@ -788,13 +798,13 @@ class Resume(Case):
         outputs = ["--jsonl", "rows.jsonl", "--sqlite", "x.db"]
         process = self.start("site", *outputs, "--jobs", "2")
         path = self.folder / "rows.jsonl"
-        eventually(lambda: path.exists() and path.read_bytes().count(b"\n") >= 93)
+        eventually(lambda: path.exists() and path.read_bytes().count(b"\n") >= 85)
         process.kill()
         process.wait()
         with sqlite3.connect(self.folder / "x.db") as database:
             count = database.execute("SELECT count(*) FROM puzzles").fetchone()
         database.close()
-        self.assertGreaterEqual(count[0], 85)  # the last ones may be on their way
+        self.assertGreaterEqual(count[0], 69)  # the last ones may be on their way
 
     def test_what_is_no_answer_is_not_kept(self):
         """The process that judges is killed from outside."""
@@ -859,6 +869,31 @@ class Resume(Case):
         self.assertEqual([row["file"] for row in rows], ["a.ppm", "b.ppm"])
         self.assertEqual(database.execute(asked).fetchall()[1], ("b.ppm", "unique", 1))
 
+    def test_a_database_of_several_folders(self):
+        self.put("one/a.ppm", p3(UNIQUE))
+        self.put("two/a.ppm", p3(AMBIGUOUS))
+        self.run_audit("site/one", "--sqlite", "x.db", status=0)
+        self.run_audit("../site/two", "--sqlite", "../x.db", status=1, cwd=self.site)
+        self.run_audit("a.ppm", "--sqlite", "../../x.db", "--quiet", cwd=self.site / "two")
+        with sqlite3.connect(self.folder / "x.db") as database:
+            rows = database.execute("SELECT folder, file, verdict FROM puzzles ORDER BY folder")
+            found = rows.fetchall()
+        database.close()
+        site = os.path.realpath(self.site)
+        wanted = [(f"{site}/one", "a.ppm", "unique"), (f"{site}/two", "a.ppm", "ambiguous")]
+        self.assertEqual(found, wanted)
+
+    def test_a_database_of_something_else(self):
+        self.put("a.ppm", p3(UNIQUE))
+        with sqlite3.connect(self.folder / "x.db") as database:
+            database.execute("CREATE TABLE puzzles (name, image)")
+        database.close()
+        done = self.run_audit("site", "--sqlite", "x.db", status=3)
+        self.assertIn("x.db has another table that is called puzzles", done.stderr)
+        (self.folder / "y.db").write_text("something\n" * 100)
+        done = self.run_audit("site", "--sqlite", "y.db", status=3)
+        self.assertIn("y.db: file is not a database", done.stderr)
+
     def test_a_file_of_something_else(self):
         self.put("a.ppm", p3(UNIQUE))
         (self.folder / "rows.jsonl").write_text("something\n[1]\n{}\n")
@@ -882,8 +917,7 @@ class Outputs(Case):
 
     def test_csv(self):
         self.put("=1+1.ppm", p3(AMBIGUOUS))
-        self.put("=1+1.ppm.givens", "given 1 1\n")
-        self.put("=1+1.ppm.cert", GIVEN_CERT)
+        self.put_for("=1+1.ppm", givens="given 1 1\n", certificate=GIVEN_CERT)
         titles = {
             "=HYPERLINK()": "'=HYPERLINK()",
             "+1": "'+1",
@@ -942,12 +976,9 @@ class Outputs(Case):
             (["--jsonl", "no/rows"], "no/rows.new: No such file"),
             (["--csv", "no/rows"], "no/rows.new: No such file"),
             (["--sqlite", "no/rows"], "no/rows: No such file"),
-            (["--certify", "site/one.ppm/x"], "lies in 'site'"),
         ):
             with self.subTest(words):
-                done = self.run_audit("site", *words, "--quiet")
-                self.assertIn(why, done.stderr)
-                self.assertEqual(done.returncode, 2 if "lies" in why else 3)
+                self.assertIn(why, self.run_audit("site", *words, "--quiet", status=3).stderr)
         (self.folder / "file").write_text("")
         done = self.run_audit("site", "--certify", "file/x", "--jsonl", "rows", status=3)
         self.assertIn("Not a directory", done.stderr)
@@ -984,7 +1015,7 @@ class Outputs(Case):
         tiles = re.findall(r'class="tile (\w+)"[^>]*>\s*<span[^>]*></span><strong>(\d+)<', page)
         counts = [("fit", "2"), ("flawed", "1"), ("ambiguous", "1"), ("undecided", "0")]
         self.assertEqual(tiles, [*counts, ("error", "1")])
-        flaws = re.findall(r'data-flaw="(\d+)" aria-pressed="false">([^<]+) <strong>(\d+)<', page)
+        flaws = re.findall(r'data-flaw="(\d+)"[^>]*>\s*([^<]+) <strong>(\d+)<', page)
         wanted = [("0", "blank pictures", "1"), ("1", "the same clues as another", "1")]
         self.assertEqual(flaws, wanted)
         records = {record[0]: record for record in records_of(page)}

@@ -77,7 +77,7 @@ def picture_of(rows):
     )
 
 
-def told(call):
+def answer_of(call):
     """What a call answers, as the program tells it: standard output, what is said, status."""
     try:
         return str(call()), "", 0
@@ -104,7 +104,7 @@ class Cases(unittest.TestCase):
             ("", f"nonobench: {answer[2:]}\n", 1) if answer.startswith("! ") else (wrote, "", 0)
         )
         with self.subTest(asked):
-            self.assertEqual(told(call), wanted)
+            self.assertEqual(answer_of(call), wanted)
 
     def test_pictures(self):
         for asked, answer in cases("pictures"):
@@ -176,7 +176,7 @@ class Answers(unittest.TestCase):
             ([(1, 1)] * 2, "Repeated", 2),
             ([(-1, 1)], "BadLine", 1),
             (b"given 1 1\n\n", "BadLine", 2),
-            (b"given 1 1\r\n", "BadLine", 1),
+            (b"given 1 1\r\r\n", "BadLine", 1),
         ):
             with self.subTest(published), self.assertRaisesRegex(
                 GivensError, f"^givens {name} at line {line}$"
@@ -233,6 +233,23 @@ class Answers(unittest.TestCase):
         self.assertEqual(clues.rows, ((Block(1, "a"), Block(2, "b")),))
         self.assertEqual(clues.columns, ((Block(1, "a"),), (Block(1, "b"),), (Block(1, "b"),)))
         self.assertEqual(nonobench.clues(b"P3 1 1 1 0 0 0", (0, 0, 0)).rows, ((),))
+
+    def test_palette(self):
+        """The background first, also where no cell has it; the others as they first appear."""
+        picture, inks = b"P3 3 1 999 9 0 999 1 2 3 0 0 0", [(9, 0, 999), (1, 2, 3), (0, 0, 0)]
+        for background, colours in (
+            (None, [(999, 999, 999), *inks]),
+            (inks[1], [inks[1], inks[0], inks[2]]),
+        ):
+            wanted = list(zip(".abc", colours))
+            for call in (nonobench.clues, nonobench.verdict, nonobench.assess):
+                self.assertEqual(list(call(picture, background=background).palette.items()), wanted)
+            audit = nonobench.audit(picture, background=background)
+            self.assertEqual(list(audit.verdict.palette.items()), wanted)
+        puzzle = b"width 1\nheight 1\nrows\n1\ncolumns\n1\n"
+        self.assertEqual(nonobench.clues(puzzle).palette, {".": (255, 255, 255), "a": (0, 0, 0)})
+        same = nonobench.verdict(b"P3 1 1 1 0 0 0"), nonobench.verdict(b"P3 1 1 9 0 0 0")
+        self.assertEqual(same[0], same[1], "palettes are not compared")
 
     def test_verdict(self):
         verdict = nonobench.verdict(DIAGONAL)
@@ -479,7 +496,7 @@ class Answers(unittest.TestCase):
         changed = [
             (
                 text.replace("\n", "\r\n").encode(),
-                "its lines end with CR LF, and must end with LF alone",
+                "its lines end with CR LF, and must end with LF only",
             ),
             (
                 text.encode("utf-8-sig"),
@@ -494,13 +511,13 @@ class Answers(unittest.TestCase):
         for file, hint in changed:
             with self.subTest(file), self.assertRaisesRegex(
                 CertificateError, "NotCert at line 1"
-            ) as told:
+            ) as caught:
                 nonobench.check(picture, file)
-            self.assertEqual(nonobench.hint_of(told.exception, file), hint)
+            self.assertEqual(nonobench.hint_of(caught.exception, file), hint)
         late = text.replace("\n", "\n\r\n", 1).encode()
-        with self.assertRaisesRegex(CertificateError, "BadLine at line 2") as told:
+        with self.assertRaisesRegex(CertificateError, "BadLine at line 2") as caught:
             nonobench.check(picture, late)
-        self.assertEqual(nonobench.hint_of(told.exception, late), "")
+        self.assertEqual(nonobench.hint_of(caught.exception, late), "")
 
     def test_any_bytes(self):
         source = random.Random(1)
@@ -591,7 +608,9 @@ class Chance(unittest.TestCase):
             )
             with self.subTest(picture=picture, background=background):
                 if answer[2] != 0:
-                    self.assertEqual(told(lambda: nonobench.clues(picture, background)), answer)
+                    self.assertEqual(
+                        answer_of(lambda: nonobench.clues(picture, background)), answer
+                    )
                     refused += 1
                     continue
                 verdict, clues, certificate = parts_of(answer[0])
@@ -609,7 +628,7 @@ class Chance(unittest.TestCase):
                 self.put("cert", certificate)
                 answer = self.run_program(["check", "picture", "cert", *words])
                 self.assertEqual(
-                    told(lambda: nonobench.check(picture, certificate, background, ANY_GIVEN)),
+                    answer_of(lambda: nonobench.check(picture, certificate, background, ANY_GIVEN)),
                     answer,
                 )
                 accepted += answer[2] == 0
@@ -622,7 +641,8 @@ class Chance(unittest.TestCase):
                     ["check", "--givens", "givens", "picture", "cert", *words]
                 )
                 self.assertEqual(
-                    told(lambda: nonobench.check(picture, certificate, background, givens)), answer
+                    answer_of(lambda: nonobench.check(picture, certificate, background, givens)),
+                    answer,
                 )
                 published += answer[2] == 0
         self.assertGreater(

@@ -6,6 +6,7 @@ import http.client
 import io
 import json
 import os
+import re
 import shutil
 import socket
 import subprocess
@@ -19,6 +20,7 @@ import pytest
 from audit_parts import background_cases
 from nonobench.service import POOL, create_app, png_of
 from PIL import Image
+from werkzeug.datastructures import MultiDict
 
 EXAMPLES = Path(__file__).resolve().parents[2] / "examples"
 NAMES = {file.name for file in EXAMPLES.iterdir()}
@@ -139,6 +141,10 @@ def test_requests_without_a_row(client, library):
     assert asked(client, "/assess", puzzle="") == (400, {"error": "the form has no puzzle"})
     status, answer = asked(client, "/assess", puzzle="heart.ppm", cert="given.ppm.cert")
     assert (status, "no field 'cert'" in answer["error"]) == (400, True)
+    twice = MultiDict([("puzzle", CROSS), ("givens", "given 1 1\n"), ("givens", "")])
+    answer = client.post("/assess", data=twice, content_type="multipart/form-data")
+    wanted = {"error": "the form has the field 'givens' 2 times"}
+    assert (answer.status_code, answer.get_json()) == (400, wanted)
     for path, method, status in (("/assess", "get", 405), ("/", "get", 404)):
         answer = getattr(client, method)(path)
         assert (answer.status_code, list(answer.get_json())) == (status, ["error"])
@@ -156,6 +162,27 @@ def test_limits(library, monkeypatch):
         assert client.application.config["ALLOW_FLAWS"] == ["alike"]
         status, answer = asked(client, "/assess", puzzle="heart.ppm")
         assert (status, list(answer)) == (503, ["error"])
+
+
+@pytest.mark.parametrize(
+    "name, value, said",
+    [
+        ("SECONDS", "0", "seconds must be a whole number from 1 to 1000000, not 0"),
+        ("SECONDS", "ten", "not 'ten'"),
+        ("MEMORY", "1.5", "memory must be a whole number from 64"),
+        ("PROCESSES", "0", "PROCESSES must be a whole number from 1 to 4096, not 0"),
+        ("WAIT", "-1", "WAIT must be a whole number from 0"),
+        ("MAX_CONTENT_LENGTH", "null", "MAX_CONTENT_LENGTH must be a whole number from 1"),
+        ("MAX_GUESSES", "true", "max_guesses must be a whole number from 0 to 99999"),
+        ("BACKGROUND", "blue", "background must be auto, white, or R,G,B, not 'blue'"),
+        ("ALLOW_FLAWS", "alike", "ALLOW_FLAWS must be a list, not 'alike'"),
+        ("ALLOW_FLAWS", '["like"]', "allowed must be of blank, background, given, alike, any"),
+    ],
+)
+def test_a_wrong_limit_is_refused_at_the_start(monkeypatch, name, value, said):
+    monkeypatch.setenv(f"NONOBENCH_{name}", value)
+    with pytest.raises(ValueError, match=re.escape(said)):
+        create_app()
 
 
 def test_health(client):

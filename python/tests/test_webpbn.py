@@ -218,7 +218,7 @@ class Texts(Case):
         ]
         self.put("set.xml", f"<puzzleset>{''.join(puzzles)}</puzzleset>")
         row = self.rows("site", status=1)["set.xml"]
-        wanted = "3 puzzles, and a file has one: nonobench-audit unpack SET.xml DIR"
+        wanted = "this has 3 puzzles: nonobench-audit unpack SET.xml DIR writes a file for each"
         self.assertEqual(row["error"], wanted)
         done = self.run_audit("unpack", "site/set.xml", "out", status=0)
         self.assertEqual(done.stdout, "3 puzzles in out\n")
@@ -249,6 +249,6 @@ class Texts(Case):
         self.assertEqual((row["verdict"], row["picture"]), ("unique", "a./.a"))
         self.assertIn("NoGoal", row_of(clues, "x.non", givens=b"given 1 1\n")["error"])
         row = row_of(clues, "x.non", background=b"0,0,0")
-        self.assertEqual(row["error"], "its background is white, as of each .non puzzle")
+        self.assertEqual(row["error"], "a .non puzzle has no background but white")
         none = row_of("width 1\nheight 1\nrows\n1\ncolumns\n0\n", "x.non")
         self.assertEqual((none["verdict"], none["fit"]), ("error", False))

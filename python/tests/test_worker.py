@@ -108,7 +108,7 @@ class Workers(unittest.TestCase):
             with nonobench.Worker(seconds=seconds) as worker, self.assertRaisesRegex(
                 TimeoutError, f"^no answer within {seconds} seconds$"
             ):
-                told(worker, *question)
+                answer_of(worker, *question)
         with nonobench.Worker(seconds=2) as worker:
             with self.assertRaises(TimeoutError):
                 worker.verdict(ENDLESS)
@@ -284,7 +284,7 @@ QUESTIONS = (
 )
 
 
-def told(asked, name, *words):
+def answer_of(asked, name, *words):
     """What somebody answers to a question, or the error."""
     try:
         return getattr(asked, name)(*words)
@@ -305,12 +305,12 @@ class Interrupts(unittest.TestCase):
     def test_no_answer_is_that_of_another_question(self):
         source = random.Random(int(os.environ.get("SEED", "1")))
         most = int(os.environ.get("INTERRUPTS", "200"))
-        wanted = {question: told(nonobench, *question) for question in QUESTIONS}
+        wanted = {question: answer_of(nonobench, *question) for question in QUESTIONS}
         struck = compared = 0
         before = set(children(os.getpid()))  # another test's may be there
         with nonobench.Worker(seconds=300) as worker:
             begun = time.perf_counter()
-            told(worker, *QUESTIONS[0])
+            answer_of(worker, *QUESTIONS[0])
             usual = time.perf_counter() - begun
             while struck < most:
                 # Half of the moments lie in the time of an answer, the others in that of a process
@@ -322,7 +322,7 @@ class Interrupts(unittest.TestCase):
                     signal.setitimer(signal.ITIMER_REAL, moment + 1e-6, 60)
                     while True:
                         question = source.choice(QUESTIONS)
-                        answer = told(worker, *question)
+                        answer = answer_of(worker, *question)
                         self.assertEqual(answer, wanted[question])
                         compared += 1
                 except Interrupt:
@@ -330,7 +330,7 @@ class Interrupts(unittest.TestCase):
                     struck += 1
                 if source.random() < 0.5:
                     question = source.choice(QUESTIONS)
-                    self.assertEqual(told(worker, *question), wanted[question])
+                    self.assertEqual(answer_of(worker, *question), wanted[question])
                     compared += 1
         self.assertGreater(compared, most / 3)
         print(f"{struck} calls interrupted, {compared} answers compared")

@@ -6,8 +6,8 @@ import enum
 import io
 import itertools
 import re
-from dataclasses import dataclass
-from typing import Iterable, NamedTuple, Optional
+from dataclasses import dataclass, field
+from typing import Iterable, Mapping, NamedTuple, Optional
 
 MOST_GIVENS = 120 * 120  # a picture has no more cells
 
@@ -112,22 +112,33 @@ class Result:
         )
 
 
-def givens_of(certificate: bytes) -> tuple[Given, ...]:
-    """The givens that a right certificate names: they stand directly below its first line. No right
-    one has more or longer numbers."""
-    lines = itertools.islice(io.BytesIO(certificate), 1, 1 + MOST_GIVENS)
+def givens_of(text: bytes) -> tuple[Given, ...]:
+    """The givens that a text names in lines directly below its first one: a right certificate, or
+    the library's text for one that is accepted. No right one has more or longer numbers."""
+    lines = itertools.islice(io.BytesIO(text), 1, 1 + MOST_GIVENS)
     found = itertools.takewhile(
         bool, map(re.compile(rb"given (\d{1,3}) (\d{1,3})\n?").fullmatch, lines)
     )
     return tuple(Given(int(match[1]), int(match[2])) for match in found if match)
 
 
-def result_of(text: str, certificate: bytes) -> Result:
-    """What was accepted, by the line that tells it."""
-    result = Result(givens_of(certificate))
-    if str(result) != text:
+def result_of(text: bytes) -> Result:
+    """What was accepted, by the library's text: the line that tells it, and the givens below."""
+    result = Result(givens_of(text))
+    if not text.startswith(str(result).encode()):
         raise RuntimeError(f"the library names other givens: {text!r}")
     return result
+
+
+# Which colour each letter is, the background first: a red, a green and a blue on the scale of the
+# picture, up to its maxval.
+Palette = Mapping[str, tuple[int, int, int]]
+
+
+def palette_of(text: str) -> Palette:
+    """The palette that lines tell, such as `colour . 255 255 255`."""
+    lines = (line.split(" ") for line in text.splitlines())
+    return {letter: (int(red), int(green), int(blue)) for _, letter, red, green, blue in lines}
 
 
 class Block(NamedTuple):
@@ -143,6 +154,7 @@ class Clues:
 
     rows: tuple[tuple[Block, ...], ...]
     columns: tuple[tuple[Block, ...], ...]
+    palette: Palette = field(default_factory=dict, compare=False)
 
     def __str__(self) -> str:
         """The lines that the program prints."""
@@ -154,8 +166,8 @@ class Clues:
         )
 
 
-def clues_of(text: str) -> Clues:
-    """The clues that a text tells."""
+def clues_of(text: str, palette: str) -> Clues:
+    """The clues that a text tells, and the palette that another one does."""
     axes: dict[str, list[tuple[Block, ...]]] = {"r": [], "c": []}
     for line in text.splitlines():
         name, words = line.split(": ")
@@ -165,7 +177,7 @@ def clues_of(text: str) -> Clues:
             else tuple(Block(int(word[:-1]), word[-1]) for word in words.split(" "))
         )
         axes[name[0]].append(blocks)
-    return Clues(tuple(axes["r"]), tuple(axes["c"]))
+    return Clues(tuple(axes["r"]), tuple(axes["c"]), palette_of(palette))
 
 
 class Ruling(enum.Enum):
@@ -183,6 +195,7 @@ class Verdict:
 
     ruling: Ruling
     other: Optional[tuple[str, ...]] = None
+    palette: Palette = field(default_factory=dict, compare=False)
 
 
 class Grade(NamedTuple):
@@ -224,8 +237,13 @@ class Assessment:
     grade: Optional[Grade]
     flaws: tuple[Flaw, ...]
     is_fit: bool
-    text: str
+    text: str  # what the program prints
     named: tuple[Given, ...] = ()  # the givens that the certificate names, where one is passed
+
+    @property
+    def palette(self) -> Palette:
+        """Which colour each letter is."""
+        return self.verdict.palette
 
 
 FLAW_KINDS = ("blank", "background", "given", "alike", "any")
@@ -313,21 +331,25 @@ def proved_of(text: bytes) -> Proved:
     return Proved(Ruling(text.decode("ascii").rstrip("\n")))
 
 
-def verdict_of(text: bytes) -> Verdict:
-    """The verdict that a text tells."""
-    first, *rows = text.decode("ascii").splitlines()
+def verdict_of(text: str, palette: str) -> Verdict:
+    """The verdict that a text tells, and the palette that another one does."""
+    first, *rows = text.splitlines()
     ruling = Ruling(first.split(" ")[0])
-    return Verdict(ruling, tuple(rows) if ruling is Ruling.AMBIGUOUS else None)
+    other = tuple(rows) if ruling is Ruling.AMBIGUOUS else None
+    return Verdict(ruling, other, palette_of(palette))
 
 
 def assessment_of(text: str, named: tuple[Given, ...] = ()) -> Assessment:
-    """The assessment that a text tells, by a certificate that names some givens."""
+    """The assessment that a text tells, by a certificate that names some givens. The palette stands
+    below what the program prints."""
+    end = text.find("\ncolour ") + 1 or len(text)
+    text, palette = text[:end], text[end:]
     front, back = text.split("size ", 1)
     size, *lines = (line.split(" ") for line in back.splitlines())
     found = {words[0]: words[1:] for words in lines if words[0] != "flaw"}
     grade = found.get("grade")
     return Assessment(
-        verdict_of(front.encode("ascii")),
+        verdict_of(front, palette),
         int(size[0]),
         int(size[1]),
         int(found["colours"][0]),

@@ -90,7 +90,7 @@ class Questions:
         )
         kind = CHECK_ANY if givens is None else CHECK
         (text,) = self._ask(kind, picture, background, certificate, givens or b"")
-        return result_of(text.decode("ascii"), certificate)
+        return result_of(text)
 
     def prove(
         self,
@@ -154,7 +154,8 @@ class Questions:
 
     def clues(self, picture: Bytes, background: Optional[Colour] = None) -> Clues:
         """The clues of a picture."""
-        return clues_of(self._say(picture, background, b"clues\n")[-1].decode("ascii"))
+        palette, text = self._say(picture, background, b"clues\n")
+        return clues_of(text.decode("ascii"), palette.decode("ascii"))
 
     def verdict(
         self, picture: Bytes, allowance: Optional[int] = None, background: Optional[Colour] = None
@@ -165,7 +166,8 @@ class Questions:
         the search has no bound, and may take very long; `Worker` limits the time. Raises ValueError
         for another allowance.
         """
-        return verdict_of(self._say(picture, background, _allow(allowance) + b"verdict\n")[-1])
+        palette, *_, text = self._say(picture, background, _allow(allowance) + b"verdict\n")
+        return verdict_of(text.decode("ascii"), palette.decode("ascii"))
 
     def path(
         self,
@@ -194,10 +196,10 @@ class Questions:
 
         The allowance bounds the verdict, as in `verdict`; making the certificate has no bound.
         """
-        texts = self._say(picture, background, _allow(allowance) + b"verdict\ncertify\n")
-        if texts[-1].startswith(b"nonocert "):
-            return Audit(verdict_of(texts[-2]), texts[-1])
-        return Audit(verdict_of(texts[-1]))
+        lines = _allow(allowance) + b"verdict\ncertify\n"
+        palette, *texts = self._say(picture, background, lines)
+        certificate = texts.pop() if texts[-1].startswith(b"nonocert ") else None
+        return Audit(verdict_of(texts[-1].decode("ascii"), palette.decode("ascii")), certificate)
 
     def puzzles_of(self, data: Bytes, background: Optional[Colour] = None) -> list[Puzzle]:
         """The puzzles of a file, of every kind that nonobench-audit reads (docs/AUDIT.md): P3,
@@ -223,8 +225,8 @@ class Questions:
         lines: bytes,
         non: Optional[bool] = None,
     ) -> list[bytes]:
-        """What a bench on a picture answers to each line, until one is refused or tells that there
-        is no certificate.
+        """The palette of a picture, and what a bench on it answers to the last lines, at most two,
+        until one is refused or tells that there is no certificate.
 
         All that is asked here is lawful, so a refusal is one of memory.
         """

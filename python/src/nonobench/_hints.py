@@ -11,7 +11,7 @@ _ODD_STARTS = {
     **dict.fromkeys((b"\xff\xfe", b"\xfe\xff", b"n\0", b"\0n"), "it is UTF-16, and must be ASCII"),
     b"\xef\xbb": "it begins with a byte order mark, and must begin with its first word",
 }
-_CR_LF = "its lines end with CR LF, and must end with LF alone"
+_CR_LF = "its lines end with CR LF, and must end with LF only"
 
 
 def hint_of(error: NonobenchError, certificate: Union[bytes, bytearray, memoryview]) -> str:

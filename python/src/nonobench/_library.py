@@ -20,9 +20,9 @@ NAME = "libnonobench.so"
 # The folder of the package.
 FOLDER = os.path.dirname(os.path.abspath(__file__))
 
-# The room that a text is first taken in.
-ROOM = 4096
-_Buffer = ctypes.c_char * ROOM
+# The size of the buffer that a text is first copied to.
+_SIZE = 4096
+_Buffer = ctypes.c_char * _SIZE
 
 
 def _path() -> str:
@@ -108,8 +108,8 @@ def version() -> str:
 def _text(put: Callable[..., int], *words: object) -> bytes:
     """The text that a call puts out, as far as there is room, and answers how many bytes it has."""
     buffer = _Buffer()
-    size = put(*words, buffer, ROOM)
-    if size > ROOM:
+    size = put(*words, buffer, _SIZE)
+    if size > _SIZE:
         buffer = ctypes.create_string_buffer(size)
         put(*words, buffer, size)
     return ctypes.string_at(buffer, size)
@@ -168,7 +168,7 @@ class Desk:
         allowance: bytes,
     ) -> int:
         """Assesses a puzzle, by a certificate where there is one, and answers the status."""
-        held, is_by = certificate or b"", certificate is not None
+        proof, has_proof = certificate or b"", certificate is not None
         return int(
             _calls.nonobench_assess(
                 self._at,
@@ -180,9 +180,9 @@ class Desk:
                 True,
                 givens,
                 len(givens),
-                is_by,
-                held,
-                len(held),
+                has_proof,
+                proof,
+                len(proof),
                 allowance,
                 len(allowance),
             )

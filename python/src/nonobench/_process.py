@@ -6,8 +6,9 @@ from __future__ import annotations
 import _thread
 import contextlib
 import itertools
+import math
 import os
-import selectors
+import select
 import socket
 import subprocess
 import sys
@@ -28,7 +29,7 @@ serve(int(sys.argv[3]))"""
 
 # A write to a process that has ended is an error, and no signal.
 NO_SIGNAL = getattr(socket, "MSG_NOSIGNAL", 0)
-ROOM = 1 << 18  # bytes that are taken together
+CHUNK = 1 << 18  # bytes that are read at once
 ENDING = (
     2.0  # seconds for a process to end: one that reads from files that do not come cannot be ended
 )
@@ -119,15 +120,6 @@ class Child:
         self.pid, self._owner, self.is_stopped = self._process.pid, os.getpid(), False
         self.end = weakref.finalize(self, _end, self._process, self._stream, self._owner)
 
-    @property
-    def is_sending(self) -> bool:
-        """Whether something is on its way to the process."""
-        return bool(self._out)
-
-    def fileno(self) -> int:
-        """The number of the stream, by which it is waited for."""
-        return self._stream.fileno()
-
     def is_waiting(self) -> bool:
         """Whether it waits for a question: it is not a parent's, it has not ended, and nothing of
         another answer is there."""
@@ -164,7 +156,7 @@ class Child:
         """The answers that have come whole. Raises EOFError where the process has ended,
         MemoryError where one is too large."""
         try:
-            data = self._stream.recv(ROOM)
+            data = self._stream.recv(CHUNK)
         except BlockingIOError:
             return []
         except ConnectionError:
@@ -175,23 +167,28 @@ class Child:
         found = []
         while len(self._come) >= FRAME.size:
             number, *sizes = FRAME.unpack_from(self._come)
-            *places, end = itertools.accumulate(sizes, initial=FRAME.size)
+            *starts, end = itertools.accumulate(sizes, initial=FRAME.size)
             if end > FRAME.size + self._memory:
                 raise MemoryError("the worker's answer is larger than its memory")
             if len(self._come) < end:
                 break
             found.append(
-                (number, [bytes(self._come[at : at + size]) for at, size in zip(places, sizes)])
+                (number, [bytes(self._come[at : at + size]) for at, size in zip(starts, sizes)])
             )
             del self._come[:end]
         return found
 
-    def leave(self) -> None:
-        """Sends nothing more, of which the process is told."""
-        self._stream.shutdown(socket.SHUT_WR)
+    def wait(self, seconds: float) -> None:
+        """Waits until the process has said something, or has ended, but no more than so many
+        seconds. What is on its way goes on."""
+        poll = select.poll()
+        poll.register(self._stream, select.POLLIN | (select.POLLOUT if self._out else 0))
+        for _, event in poll.poll(math.ceil(1000 * seconds)):
+            if event & select.POLLOUT:
+                self.write()
 
     def stop(self) -> None:
-        """Ends the process. Its stream stays open, so that who waits for it is told."""
+        """Ends the process. Its stream stays open, so that whoever waits sees the end."""
         self.is_stopped = True
         self._process.kill()
 
@@ -201,7 +198,7 @@ class Child:
         return -9 if self.is_there() else self._process.returncode
 
     def has_begun(self) -> bool:
-        """Whether it told that it begins, by an empty line. It is asked once, before it is
+        """Whether it has said that it begins, by an empty line. It is asked once, before it is
         ended."""
         assert self._process.stdout
         os.set_blocking(self._process.stdout.fileno(), False)
@@ -210,23 +207,6 @@ class Child:
     def is_there(self) -> bool:
         """Whether the process has not ended."""
         return self._process.poll() is None
-
-
-def waited(children: Iterable[Child], seconds: float) -> list[Any]:
-    """The processes that have said something, or have ended, within so many seconds. What is on its
-    way goes on."""
-    with selectors.PollSelector() as selector:
-        for child in children:
-            selector.register(
-                child,
-                selectors.EVENT_READ | (selectors.EVENT_WRITE if child.is_sending else 0),
-                child,
-            )
-        ready = selector.select(seconds)
-    for key, mask in ready:
-        if mask & selectors.EVENT_WRITE:
-            key.data.write()
-    return [key.data for key, mask in ready if mask & selectors.EVENT_READ]
 
 
 def _end(process: subprocess.Popen[bytes], stream: socket.socket, owner: int) -> None:

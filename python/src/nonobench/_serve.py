@@ -68,10 +68,12 @@ def answer_on(
 def _answer_of_bench(
     desk: Desk, non: bool, picture: bytes, background: bytes, lines: bytes
 ) -> tuple[int, list[bytes]]:
-    """What a bench on a picture says to lines, until one is the last."""
+    """The palette of a picture, and what a bench on it says to the last two lines, until one is the
+    last."""
     status, bench = desk.open(picture, background, non)
+    palette = desk.text()
     if status != DONE:
-        return status, [desk.text()]
+        return status, [palette]  # which says why
     texts: list[bytes] = []
     for line in lines.splitlines(keepends=True):
         status = desk.say(bench, line)
@@ -79,7 +81,7 @@ def _answer_of_bench(
         if status != DONE or texts[-1].startswith(LAST):
             break
     desk.close(bench)
-    return status, texts or [desk.text()]
+    return status, [palette, *texts[-2:]]
 
 
 def framed(number: int, *parts: bytes) -> bytes:

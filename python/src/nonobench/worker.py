@@ -17,7 +17,7 @@ from typing import Any, Iterator, Optional, Sequence
 
 from ._calls import Questions
 from ._library import version
-from ._process import Child, folders, uninterrupted, waited
+from ._process import Child, folders, uninterrupted
 from ._serve import NO_MEMORY
 
 # After so many seconds more than it may take, a question ends the process by itself, should nobody
@@ -25,8 +25,11 @@ from ._serve import NO_MEMORY
 _GRACE = 2
 _MOST_ALARM = 2**31 - 1
 _LONGEST = 3600.0  # seconds that the system is asked to wait
+# Seconds of sleep between answers to many questions, at the most: to be woken for each takes about
+# as long as a small puzzle.
+_PAUSE = 0.005
 # Why a worker has no answer, if that is by the bounds that it was given.
-OVER_PROCESSOR, OVER_MEMORY = "no answer within its processor time", "not within its memory"
+OVER_PROCESSOR, OVER_MEMORY = "no answer within its processor time", "no answer within its memory"
 _NO_PYTHON = "a Worker needs a Python in sys.executable, and not {!r}"
 
 
@@ -63,7 +66,7 @@ class Worker(Questions):
         self._number = 0
         if not sys.executable:
             raise OSError(_NO_PYTHON.format(sys.executable))
-        version()  # so that it is told here where there is no library
+        version()  # an ImportError here if there is no library
         self._begin()
         _WORKERS.add(self)
 
@@ -154,7 +157,7 @@ class _Process(Child):
         super().__init__(module, memory, ("-S", "-B"), paths, cwd="/", start_new_session=True)
 
     def why(self) -> Exception:
-        """What is told of a process that ended in the middle of a question: by status 1 Python
+        """What is raised if a process ended in the middle of a question: by status 1 Python
         tells what its program raised. Its status seems to be 0 where it is lost: SIGCHLD is
         ignored, or another part of the program waits for all that end.
         """
@@ -195,16 +198,19 @@ class _Process(Child):
             self.put(number, b"%d %d %d" % (kind, alarm, processor), *files)
         self.write()
         come: deque[tuple[int, list[bytes]]] = deque()
-        for number in range(first, first + len(questions)):
+        sent = time.monotonic()
+        for count, number in enumerate(range(first, first + len(questions))):
             # before that it has not had its processor time
             self._spent = time.monotonic() + (processor or math.inf)
+            if count and not come:
+                rest = (time.monotonic() - sent) / count * (len(questions) - count)
+                time.sleep(min(rest / 2, _PAUSE))
             while not come:
-                come.extend(self.answers())
                 left = begun + seconds - time.monotonic()
+                self.wait(min(max(left, 0.0), _LONGEST))
+                come.extend(self.answers())
                 if not come and left <= 0:
                     raise _late(seconds)
-                if not come:
-                    waited([self], min(left, _LONGEST))
             answered, (status, *texts) = come.popleft()
             if answered != number:
                 raise RuntimeError(f"the worker answered question {answered} instead of {number}")

@@ -1,4 +1,4 @@
-"""Asks about puzzles: in processes with limits, of which each thread keeps one, on any executor of
+"""Asks about puzzles: in processes with limits, one for each thread, on any executor of
 `concurrent.futures`."""
 
 from __future__ import annotations
@@ -15,15 +15,18 @@ from typing import Any, Iterable, Iterator, NamedTuple, Optional, Sequence, Unio
 
 from .._library import version
 from ..worker import OVER_MEMORY, OVER_PROCESSOR, Worker
-from .judging import CERTIFY, JUDGE, parts_of
+from .finding import CERT
+from .judging import CERTIFY, JUDGE, packed_options, parts_of
 from .puzzles import Answer, Options, Question, Row
 
 WALL = 10  # how much longer a puzzle may take by the clock than of the processor
-TOGETHER = 8  # puzzles that go together, and whose rows are written together
-LEAST_AHEAD = 8  # of these on their way, before what has come is taken
+# Puzzles that go together, since to hand over one takes as long as to judge a small one. Their rows
+# are written together, so a run that is killed loses no more than these in each thread.
+BATCH = 16
+LEAST_AHEAD = 8  # batches under way, before answers are taken
 MOST_AHEAD = 4096  # puzzles behind one that takes long
-MOST_BYTES = 32 << 20  # of questions that are on their way
-_BOUNDS = ("", OVER_PROCESSOR, OVER_MEMORY)  # why an answer lasts: it is one, or the bounds say so
+MOST_BYTES = 32 << 20  # of questions under way
+_BOUNDS = ("", OVER_PROCESSOR, OVER_MEMORY)  # why an answer would be the same again
 
 
 class Judge(Worker):
@@ -36,7 +39,7 @@ class Judge(Worker):
         return "collection.judging", True
 
     def answers(self, questions: Sequence[Question], options: Options) -> list[Answer]:
-        """What is said of puzzles, and what is to be written for each."""
+        """The row of each puzzle, and the files to write for it."""
         texts = self._texts(JUDGE, questions, options)
         found = [_answer_of(*both, options) for both in zip(questions, texts)]
         is_making = options.is_certifying or options.is_publishing
@@ -50,7 +53,8 @@ class Judge(Worker):
         self, kind: int, questions: Sequence[Question], options: Options
     ) -> list[tuple[bytes, str]]:
         """The text that is answered to each question, or why none is."""
-        asked = [(kind, *parts_of(question, options)) for question in questions]
+        packed = packed_options(options)
+        asked = [(kind, *parts_of(question, packed)) for question in questions]
         texts: list[tuple[bytes, str]] = []
         while len(texts) < len(asked):
             found: list[tuple[int, list[bytes]]] = []
@@ -72,43 +76,50 @@ class Judge(Worker):
 
 def _answer_of(question: Question, text: tuple[bytes, str], options: Options) -> Answer:
     """The answer to a question, or why there is none: of bounds, or of something else."""
-    said, why = text
+    answered, why = text
     row: Row = {"file": question.name, "verdict": "undecided", "fit": False, "notes": [why]}
-    row = json.loads(said) if said else {**row, "limit": options.limit()}
-    row["tool"], row["digest"] = _tool(), digest_of(question.data)
-    return Answer(row, {}, why in _BOUNDS and "missing" not in row)
+    row = json.loads(answered) if answered else {**row, "limit": options.limit()}
+    digests = digests_of(question)
+    row["tool"], row["digest"] = _tool(), digests[0]
+    if why in _BOUNDS and "missing" not in row:
+        row["key"] = key_of(question, digests, options)
+    return Answer(row)
 
 
 def _with_certificate(answer: Answer, text: tuple[bytes, str], options: Options) -> Answer:
     """Adds the certificate that was made, or that none was."""
-    row, (said, why) = answer.row, text
-    found = json.loads(said) if said else {}
-    files = {ending: data.encode("ascii") for ending, data in found.items()}
-    certificate = files.get(".cert", files.get(".ppm.cert"))
+    row, (answered, why) = answer.row, text
+    made = json.loads(answered) if answered else {}
+    files = {ending: data.encode("ascii") for ending, data in made.items()}
+    certificate = files.get(CERT, files.get(f".ppm{CERT}"))
     if certificate is None:
         row["limit"] = options.limit()
         row["notes"] = ["no certificate was made within its time and memory"]
     else:
         row["lines"] = certificate.count(b"\n")
         row["files"] = {ending: digest_of(files[ending]) for ending in sorted(files)}
-    return Answer(row, files, why in _BOUNDS)
+    if why not in _BOUNDS:
+        row.pop("key", None)
+    return Answer(row, files)
 
 
-_kept = threading.local()
+_of_thread = threading.local()  # its judge, and the bounds of that
 
 
 def judge(
     questions: Sequence[Question], options: Options = Options(), asked_by: Optional[str] = None
 ) -> list[Answer]:
-    """The answers to some questions, by the process that this thread keeps. `asked_by` is the
-    version of who asks: another one has other answers."""
+    """The answers to some questions, by the process of this thread. `asked_by` is the
+    version of who asks: another one has other answers. ValueError: an option is wrong.
+    """
+    options.check()
     if asked_by not in (None, _tool()):
         raise RuntimeError(f"this is {_tool()}, and {asked_by} asks")
     bounds = options.seconds, options.memory
-    if getattr(_kept, "bounds", None) != bounds:
-        _kept.judge, _kept.bounds = Judge(options), bounds
-        getattr(_kept, "judges", []).append(_kept.judge)
-    found: list[Answer] = _kept.judge.answers(questions, options)
+    if getattr(_of_thread, "bounds", None) != bounds:
+        _of_thread.judge, _of_thread.bounds = Judge(options), bounds
+        getattr(_of_thread, "judges", []).append(_of_thread.judge)
+    found: list[Answer] = _of_thread.judge.answers(questions, options)
     return found
 
 
@@ -125,13 +136,17 @@ def audit(
     """
     if executor is not None:
         turns = Turns()
-        for come in arrivals((Entry(Question(*puzzle)) for puzzle in puzzles), options, executor):
-            for number, _, answer in come:
+        for answers in arrivals(
+            (Entry(Question(*puzzle)) for puzzle in puzzles), options, executor
+        ):
+            for number, answer in answers:
                 yield from turns.due(number, answer.row)
         return
     judges: list[Judge] = []
     count = len(os.sched_getaffinity(0))
-    threads = ThreadPoolExecutor(count, initializer=setattr, initargs=(_kept, "judges", judges))
+    threads = ThreadPoolExecutor(
+        count, initializer=setattr, initargs=(_of_thread, "judges", judges)
+    )
     try:
         yield from audit(puzzles, options, threads)
     finally:
@@ -145,7 +160,6 @@ class Entry(NamedTuple):
 
     question: Optional[Question]
     row: Row = {}
-    key: str = ""
 
     def size(self) -> int:
         """The bytes of its question, and what it takes besides."""
@@ -153,21 +167,21 @@ class Entry(NamedTuple):
 
 
 class Turns:
-    """Brings rows that come in any order into that of their numbers."""
+    """Puts rows that come in any order into the order of their numbers."""
 
     def __init__(self) -> None:
-        self._held: dict[int, Row] = {}
+        self._waiting: dict[int, Row] = {}
         self._next = 0
 
     def due(self, number: int, row: Row) -> Iterator[Row]:
-        """Takes a row, and gives those whose turn it is."""
-        self._held[number] = row
-        while self._next in self._held:
+        """Takes a row, and yields those that are next."""
+        self._waiting[number] = row
+        while self._next in self._waiting:
             self._next += 1
-            yield self._held.pop(self._next - 1)
+            yield self._waiting.pop(self._next - 1)
 
 
-Arrival = tuple[int, Entry, Answer]
+Arrival = tuple[int, Answer]
 
 
 def arrivals(
@@ -175,31 +189,35 @@ def arrivals(
 ) -> Iterator[list[Arrival]]:
     """The answers as they come, each with the number of its puzzle. Leaving the loop cancels what
     waits."""
-    waiting: dict[int, Pack] = {}  # by the number of its first puzzle, the lowest first
-    come: SimpleQueue[int] = SimpleQueue()
+    waiting: dict[int, Batch] = {}  # by the number of its first puzzle, the lowest first
+    done: SimpleQueue[int] = SimpleQueue()
     size = 0
     try:
-        for number, pack in _packs(entries, options, executor):
-            waiting[number] = pack
-            size += pack.size
-            pack.future.add_done_callback(lambda _, number=number: come.put(number))  # type: ignore
+        for number, batch in _batches(entries, options, executor):
+            waiting[number] = batch
+            size += batch.size
+            batch.future.add_done_callback(functools.partial(_put, done, number))
             while waiting and (
                 (size > MOST_BYTES or number - next(iter(waiting)) >= MOST_AHEAD)
-                or (len(waiting) >= LEAST_AHEAD and not come.empty())
+                or (len(waiting) >= LEAST_AHEAD and not done.empty())
             ):
-                first = come.get()
+                first = done.get()
                 size -= waiting[first].size
                 yield waiting.pop(first).answers(first)
         while waiting:
-            first = come.get()
+            first = done.get()
             yield waiting.pop(first).answers(first)
     finally:
-        for pack in waiting.values():
-            pack.future.cancel()
+        for batch in waiting.values():
+            batch.future.cancel()
 
 
-class Pack(NamedTuple):
-    """Puzzles that go together, since to ask about one takes as long as a small one takes."""
+def _put(done: SimpleQueue[int], number: int, _: Future[list[Answer]]) -> None:
+    done.put(number)
+
+
+class Batch(NamedTuple):
+    """Puzzles that go together."""
 
     entries: list[Entry]
     size: int
@@ -209,32 +227,36 @@ class Pack(NamedTuple):
         """Their answers."""
         made = iter(self.future.result())
         found = [next(made) if one.question else Answer(one.row) for one in self.entries]
-        return list(zip(itertools.count(first), self.entries, found))
+        return list(enumerate(found, first))
 
 
-def _packs(
+def _batches(
     entries: Iterable[Entry], options: Options, executor: Executor
-) -> Iterator[tuple[int, Pack]]:
+) -> Iterator[tuple[int, Batch]]:
     all_entries = iter(entries)
     number = 0
-    while pack := list(itertools.islice(all_entries, TOGETHER)):
-        asked = [entry.question for entry in pack if entry.question]
+    while batch := list(itertools.islice(all_entries, BATCH)):
+        asked = [entry.question for entry in batch if entry.question]
         future: Future[list[Answer]] = Future()
         if asked:
             future = executor.submit(judge, asked, options, _tool())
         else:
             future.set_result([])
-        yield number, Pack(pack, sum(map(Entry.size, pack)), future)
-        number += len(pack)
+        yield number, Batch(batch, sum(map(Entry.size, batch)), future)
+        number += len(batch)
 
 
-def key_of(question: Question, options: Options) -> str:
+def digests_of(question: Question) -> list[Optional[str]]:
+    """The digests of the files of a question, that of the puzzle first."""
+    return [None if part is None else digest_of(part) for part in question[1:5]]
+
+
+def key_of(question: Question, digests: list[Optional[str]], options: Options) -> str:
     """A digest of all that an answer comes from, but for the bounds that are in its `limit`."""
-    parts = [None if part is None else digest_of(part) for part in question[1:5]]
     ending = question.name.lower().rpartition(".")[2]
-    kept = options._replace(seconds=0, memory=0)
+    unbounded = options._replace(seconds=0, memory=0)
     claim = question.ignored, question.claimed
-    return digest_of(repr((_tool(), ending, parts, claim, kept)).encode())
+    return digest_of(repr((_tool(), ending, digests, claim, unbounded)).encode())
 
 
 def digest_of(data: bytes) -> str:

@@ -1,7 +1,7 @@
-"""Which files are puzzles, and what belongs to each: the rule of names.
+"""Finds the files that are puzzles, and what belongs to each: the rule of names.
 
-The certificate, the givens and the background of a puzzle are called as its whole file name plus
-one ending. They lie beside it, or at the same path below another folder.
+The names of the certificate, the givens and the background of a puzzle are its whole file name plus
+one ending. They are in its folder, or at the same path below another folder.
 """
 
 from __future__ import annotations
@@ -19,7 +19,8 @@ from .._serve import read
 from .puzzles import Question, need
 
 PUZZLES = (".ppm", ".pgm", ".pbm", ".pnm", ".png", ".non", ".xml")  # in any letters
-ENDINGS = {".cert": "certificate", ".givens": "givens", ".background": "background"}
+CERT, GIVENS, BACKGROUND = ".cert", ".givens", ".background"
+ENDINGS = {CERT: "certificate", GIVENS: "givens", BACKGROUND: "background"}
 _ANY_ENDING = re.compile("|".join(map(re.escape, ENDINGS)))
 Skipped = Counter[str]
 
@@ -30,8 +31,8 @@ class Found(NamedTuple):
     name: str
     path: str
     belonging: dict[str, str] = {}  # by endings
-    ignored: dict[str, str] = {}  # what lies beside it and is not believed
-    why: str = ""  # it is no puzzle, or what is meant to belong to it is called otherwise
+    ignored: dict[str, str] = {}  # files next to it that are not believed
+    why: str = ""  # it is refused
 
 
 def is_puzzle(name: str) -> bool:
@@ -43,8 +44,8 @@ Meant = dict[str, list[tuple[str, str]]]
 
 
 def meant_in(names: Iterable[str]) -> Meant:
-    """Files that may be meant to belong to a puzzle, by its name in small letters, with the ending:
-    their names begin with both, in whatever letters."""
+    """Files whose names begin with that of a puzzle and an ending, in whatever letters: they may be
+    meant to belong to it. By the puzzle's name in small letters, with the ending."""
     found: Meant = {}
     for name in names:
         for ending in () if is_puzzle(name) else _ANY_ENDING.finditer(name.lower()):
@@ -62,28 +63,32 @@ def _meant_beside(folder: str) -> Meant:
         return {}
 
 
+def _is_kept(entry: os.DirEntry[str], skipped: Skipped) -> bool:
+    """Whether it is looked at. What is not is counted."""
+    if entry.name.startswith("."):
+        skipped["hidden"] += 1
+    elif entry.is_symlink() and not _ANY_ENDING.search(entry.name.lower()):
+        skipped["links"] += 1
+    else:
+        return True
+    return False
+
+
 def walk(folder: str, skipped: Skipped, failures: list[OSError]) -> Iterator[tuple[str, list[str]]]:
-    """The folders below one, and the files in each, in order. Links and hidden names are counted:
-    a link that may be meant to belong to a puzzle stays, and cannot be read."""
+    """The folders below one, and the files in each, in order. Links and hidden names are counted;
+    but a link that may be meant to belong to a puzzle is kept, to be refused as it is read."""
     waiting = [""]
     while waiting:
         below = waiting.pop()
-        names, folders = [], []
+        kept = []
         try:
             with os.scandir(os.path.join(folder, below)) as entries:
-                for entry in entries:
-                    if entry.name.startswith("."):
-                        skipped["hidden"] += 1
-                    elif entry.is_symlink() and not _ANY_ENDING.search(entry.name.lower()):
-                        skipped["links"] += 1
-                    elif entry.is_dir(follow_symlinks=False):
-                        folders.append(os.path.join(below, entry.name))
-                    else:
-                        names.append(entry.name)
+                kept = [entry for entry in entries if _is_kept(entry, skipped)]
         except OSError as error:
             failures.append(error)
-        yield below, sorted(names)
-        waiting += sorted(folders, reverse=True)
+        folders = {one.name for one in kept if one.is_dir(follow_symlinks=False)}
+        yield below, sorted(one.name for one in kept if one.name not in folders)
+        waiting += sorted((os.path.join(below, one) for one in folders), reverse=True)
 
 
 class Search:
@@ -93,67 +98,67 @@ class Search:
         self.skipped: Skipped = Counter()
         self.failures: list[OSError] = []  # folders that cannot be listed
         self._beside = beside
-        self._is_believed = beside is None and not is_untrusted  # what lies beside a puzzle
+        self._is_believed = beside is None and not is_untrusted  # the files next to a puzzle
 
     def folder(self, folder: str) -> Iterator[Found]:
-        """The puzzles below a folder by their paths there, and each file that is called as what
-        belongs to a puzzle and belongs to none."""
-        apart = {} if self._beside is None else self._belongings(self._beside)
+        """The puzzles below a folder, by their paths there, and each file with such an ending that
+        belongs to none."""
+        ours = {} if self._beside is None else self._belongings(self._beside)
         for below, names in walk(folder, self.skipped, self.failures):
-            lying = {
+            nearby = {
                 os.path.join(below, name): os.path.join(folder, below, name)
                 for name in names
                 if name.endswith(tuple(ENDINGS))
             }
             puzzles = [os.path.join(below, name) for name in names if is_puzzle(name)]
-            believed = lying if self._is_believed else apart
+            believed = nearby if self._is_believed else ours
             meant = meant_in(names)
             for name in puzzles:
-                yield self._found(name, os.path.join(folder, name), believed, lying, meant)
+                yield self._found(name, os.path.join(folder, name), believed, nearby, meant)
             if self._is_believed:
-                yield from _of_none(lying, puzzles)
-                lying = {}
+                yield from _of_none(nearby, puzzles)
+                nearby = {}
             others = (name for name in names if not is_puzzle(name))
             self.skipped.update(
                 os.path.splitext(name)[1] or "no ending"
                 for name in others
                 if not name.endswith(tuple(ENDINGS)) or not self._is_believed
             )
-        yield from _of_none(apart, [])
+        yield from _of_none(ours, [])
 
     def files(self, names: Iterable[str]) -> Iterator[Found]:
         """The files that are named, and what belongs to them."""
         for name in names:
-            lying = {name + ending: name + ending for ending in ENDINGS}
-            lying = {one: path for one, path in lying.items() if os.path.lexists(path)}
-            apart = {}
+            nearby = {name + ending: name + ending for ending in ENDINGS}
+            nearby = {one: path for one, path in nearby.items() if os.path.lexists(path)}
+            ours = {}
             if self._beside is not None:
                 paths = {one: os.path.join(self._beside, one) for one in map(name.__add__, ENDINGS)}
-                apart = {one: path for one, path in paths.items() if os.path.lexists(path)}
-            believed = lying if self._is_believed else apart
+                ours = {one: path for one, path in paths.items() if os.path.lexists(path)}
+            believed = nearby if self._is_believed else ours
             meant = _meant_beside(os.path.dirname(name))
-            yield self._found(name, name, believed, lying, meant)
+            yield self._found(name, name, believed, nearby, meant)
 
     def _found(
-        self, name: str, path: str, believed: dict[str, str], lying: dict[str, str], meant: Meant
+        self, name: str, path: str, believed: dict[str, str], nearby: dict[str, str], meant: Meant
     ) -> Found:
-        """A puzzle, with what belongs to it: this is taken out of what is believed."""
+        """A puzzle with what belongs to it, which is taken out of the files that are believed."""
         belonging = {
             ending: believed.pop(name + ending) for ending in ENDINGS if name + ending in believed
         }
-        beside = {one: lying[name + one] for one in ENDINGS if name + one in lying}
+        beside = {one: nearby[name + one] for one in ENDINGS if name + one in nearby}
         ignored = {} if self._is_believed else beside
         return Found(name, path, belonging, ignored, self._misnamed(name, meant))
 
     def _misnamed(self, name: str, meant: Meant) -> str:
-        """Why a puzzle is refused that something is meant to belong to: it is called otherwise."""
+        """Why a puzzle is refused, if a file that is meant to belong to it has a wrong name."""
         folder, own = os.path.split(name)
         more: Meant = {}
         if self._beside is not None:
             more = _meant_beside(os.path.join(self._beside, folder))
         for other, ending in [*meant.get(own.lower(), ()), *more.get(own.lower(), ())]:
             if other not in map(own.__add__, ENDINGS):
-                return f"beside it is {other}: its {ENDINGS[ending]} is called {own}{ending}"
+                return f"rename its {ENDINGS[ending]} {other} to {own}{ending}"
         return ""
 
     def _belongings(self, folder: str) -> dict[str, str]:
@@ -166,12 +171,12 @@ class Search:
 
 
 def _of_none(left: dict[str, str], puzzles: list[str]) -> Iterator[Found]:
-    """What belongs to no puzzle, and how to call it."""
+    """Files that belong to no puzzle, and how to rename them."""
     for name, path in sorted(left.items()):
         stem, ending = os.path.splitext(name)
         meant = next((one for one in puzzles if os.path.splitext(one)[0] == stem), "PUZZLE.png")
         called = os.path.basename(meant) + ending
-        yield Found(name, path, why=f"it is of no puzzle: the {ENDINGS[ending]} is called {called}")
+        yield Found(name, path, why=f"it belongs to no puzzle: rename it to {called}")
 
 
 def question_of(found: Found) -> Question:
@@ -181,12 +186,12 @@ def question_of(found: Found) -> Question:
         ENDINGS[ending]: bytes_of(path, f"its {ENDINGS[ending]}: ")
         for ending, path in found.belonging.items()
     }
-    claimed = found.ignored.get(".background")
+    claimed = found.ignored.get(BACKGROUND)
     return Question(
         found.name,
         bytes_of(found.path),
         **parts,
-        ignored=tuple(ENDINGS[one] for one in found.ignored if one != ".background"),
+        ignored=tuple(ENDINGS[one] for one in found.ignored if one != BACKGROUND),
         claimed=None if claimed is None else bytes_of(claimed, "its background: "),
     )
 

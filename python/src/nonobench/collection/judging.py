@@ -1,8 +1,8 @@
-"""What is said of a puzzle, and a certificate of it: in the process of a `Worker`, whose program
-this is."""
+"""Judges puzzles, and makes certificates: the program of the process of a `Judge`."""
 
 from __future__ import annotations
 
+import functools
 import json
 import time
 from typing import Optional, Union
@@ -21,6 +21,7 @@ from .._calls import Questions, colour_word
 from .._hints import hint_of
 from .._library import DONE, Desk
 from . import reading, webpbn
+from .finding import BACKGROUND, CERT, GIVENS
 from .puzzles import (
     MissingLibraryError,
     Options,
@@ -35,7 +36,7 @@ JUDGE, CERTIFY = 101, 102  # kinds of questions, besides those of _serve
 
 
 class _OnOneDesk(Questions):
-    """The questions of this process, which has one thread."""
+    """Asks on the one desk of this process, which has one thread."""
 
     def __init__(self) -> None:
         self._desk: Optional[Desk] = None
@@ -49,18 +50,30 @@ class _OnOneDesk(Questions):
 _library = _OnOneDesk()
 
 
-def parts_of(question: Question, options: Options) -> list[bytes]:
-    """A question as it goes to the process."""
+def packed_options(options: Options) -> bytes:
+    """Options as they go to the process: once made, and once read, for many questions."""
+    return b"\n" + json.dumps(options).encode("ascii")
+
+
+@functools.lru_cache(1)
+def _options_of(packed: bytes) -> Options:
+    return Options(*json.loads(packed))
+
+
+def parts_of(question: Question, packed: bytes) -> list[bytes]:
+    """A question as it goes to the process, with options that are packed."""
     is_there = [part is not None for part in question[2:4]]
     background = None if question.background is None else question.background.decode("latin-1")
     claimed = None if question.claimed is None else question.claimed.decode("latin-1")
-    head = [question.name, background, question.ignored, claimed, is_there, options]
-    return [json.dumps(head).encode("ascii"), question.data, question[2] or b"", question[3] or b""]
+    head = json.dumps([question.name, background, question.ignored, claimed, is_there])
+    files = question.data, question.certificate or b"", question.givens or b""
+    return [head.encode("ascii") + packed, *files]
 
 
 def _question_of(parts: tuple[bytes, ...]) -> tuple[Question, Options]:
-    head, data, certificate, givens = parts
-    name, background, ignored, claimed, (has_certificate, has_givens), options = json.loads(head)
+    front, data, certificate, givens = parts
+    head, packed = front.split(b"\n")
+    name, background, ignored, claimed, (has_certificate, has_givens) = json.loads(head)
     question = Question(
         name,
         data,
@@ -70,7 +83,7 @@ def _question_of(parts: tuple[bytes, ...]) -> tuple[Question, Options]:
         tuple(ignored),
         None if claimed is None else claimed.encode("latin-1"),
     )
-    return question, Options(*options)
+    return question, _options_of(packed)
 
 
 def answer(kind: int, *parts: bytes) -> tuple[int, list[bytes]]:
@@ -119,25 +132,27 @@ def row_of(question: Question, options: Options) -> Row:
 def _judged(question: Question, options: Options) -> Row:
     picture = _painted(reading.picture_of(question, options), options)
     row: Row = {"title": picture.title} if picture.title else {}
-    said: Optional[Assessment] = None
+    assessment: Optional[Assessment] = None
     if question.certificate is not None:
-        said, row["certificate"] = _by_certificate(picture, question.certificate)
+        assessment, row["certificate"] = _by_certificate(picture, question.certificate)
     elif options.is_certified:
         raise UnreadableError("there is no certificate")
-    if said is None and options.is_certified:
+    if assessment is None and options.is_certified:
         raise UnreadableError(f"its certificate is refused: {row['certificate']['why']}")
-    if said is None:
+    if assessment is None:
         bound: Union[int, str] = "off" if options.max_guesses is None else options.max_guesses
-        said = _assessed(picture, None, bound)
+        assessment = _assessed(picture, None, bound)
     reading.need_claims(picture)
     is_accepted = row.get("certificate", {"accepted": True})["accepted"]
-    flaws = [str(flaw) for flaw in said.flaws]
-    is_fit = said.verdict.ruling is Ruling.UNIQUE and not refused_flaws(flaws, options.allowed)
+    flaws = [str(flaw) for flaw in assessment.flaws]
+    is_fit = assessment.verdict.ruling is Ruling.UNIQUE and not refused_flaws(
+        flaws, options.allowed
+    )
     row.update(
-        verdict=said.verdict.ruling.value,
+        verdict=assessment.verdict.ruling.value,
         fit=is_fit and is_accepted,
-        **_figures(said, flaws),
-        **_shown(picture, said),
+        **_figures(assessment, flaws),
+        **_shown(picture, assessment),
     )
     ignored = [*question.ignored, *picture.ignored]
     if ignored:
@@ -147,18 +162,25 @@ def _judged(question: Question, options: Options) -> Row:
     return row
 
 
-def _figures(said: Assessment, flaws: list[str]) -> Row:
-    """What a row has of an assessment."""
-    row: Row = {"rows": said.rows, "columns": said.columns, "open": said.open, **graded(said)}
+def _figures(assessment: Assessment, flaws: list[str]) -> Row:
+    """The size, the grade and the flaws of a row."""
+    row: Row = {
+        "rows": assessment.rows,
+        "columns": assessment.columns,
+        "open": assessment.open,
+        **graded(assessment),
+    }
     if flaws:
         row["flaws"] = flaws
     return row
 
 
-def _shown(picture: Picture, said: Assessment) -> Row:
+def _shown(picture: Picture, assessment: Assessment) -> Row:
     """The picture of a row, its givens, and a second solution."""
-    palette, letters = shown_in(picture.text, picture.background, said.rows * said.columns)
-    width = said.columns
+    palette, letters = shown_in(
+        picture.text, picture.background, assessment.rows * assessment.columns
+    )
+    width = assessment.columns
     rows = "/".join([letters[at : at + width] for at in range(0, len(letters), width)])
     row: Row = {
         "colours": len(palette),
@@ -170,15 +192,15 @@ def _shown(picture: Picture, said: Assessment) -> Row:
     }
     if picture.givens:
         row["givens"] = [list(given) for given in cells_of(picture.givens)]
-    if said.verdict.other:
-        row["other"] = "/".join(said.verdict.other)
+    if assessment.verdict.other:
+        row["other"] = "/".join(assessment.verdict.other)
     return row
 
 
 def _by_certificate(picture: Picture, certificate: bytes) -> tuple[Optional[Assessment], Row]:
-    """What a certificate proves, if it is accepted, and what is said of it."""
+    """The assessment by a certificate, if it is accepted, and what the row says of it."""
     try:
-        said = _assessed(picture, certificate, 0)
+        assessment = _assessed(picture, certificate, 0)
     except UnpublishedGivenError as error:
         return None, {
             "accepted": False,
@@ -189,7 +211,7 @@ def _by_certificate(picture: Picture, certificate: bytes) -> tuple[Optional[Asse
         hint = hint_of(error, certificate)
         return None, {"accepted": False, "why": f"{error} ({hint})" if hint else str(error)}
     givens = [list(given) for given in givens_of(certificate)]
-    return said, {"accepted": True, "givens": givens} if givens else {"accepted": True}
+    return assessment, {"accepted": True, "givens": givens} if givens else {"accepted": True}
 
 
 def _assessed(
@@ -218,12 +240,12 @@ def files_of(question: Question, options: Options) -> dict[str, bytes]:
     certificate = proved.certificate
     if certificate is None:
         return {}
-    files = {".cert": certificate} if options.is_certifying else {}
+    files = {CERT: certificate} if options.is_certifying else {}
     if not options.is_publishing:
         return files
-    files.update({".ppm": picture.text, ".ppm.cert": certificate})
+    files.update({".ppm": picture.text, f".ppm{CERT}": certificate})
     if picture.background is not None:
-        files[".ppm.background"] = colour_word(picture.background) + b"\n"
+        files[f".ppm{BACKGROUND}"] = colour_word(picture.background) + b"\n"
     if picture.givens:
-        files[".ppm.givens"] = picture.givens
+        files[f".ppm{GIVENS}"] = picture.givens
     return files

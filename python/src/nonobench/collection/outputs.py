@@ -1,4 +1,5 @@
-"""What an audit writes: rows as they come, and files that take their place once they are whole."""
+"""What an audit writes: rows as soon as they are known, and files that replace older ones once they
+are complete."""
 
 from __future__ import annotations
 
@@ -13,24 +14,24 @@ import sys
 from typing import BinaryIO, Optional
 
 from .._answers import UnreadableError
-from .puzzles import Row
+from .puzzles import Row, encodable
 from .rows import COLUMNS, HEAD, csv_cells, table_line
 
-# A row may name a file by bytes that are no letters: JSON keeps them as what they stand as.
+# The name of a file may have bytes that are no letters: JSON escapes what Python has for them.
 text_of = json.JSONEncoder(separators=(",", ":")).encode
 
 
 class Sink:
     """Where rows go."""
 
-    def keep(self, row: Row) -> None:
-        """Takes a row as soon as it is there."""
+    def record(self, row: Row) -> None:
+        """Takes a row as soon as it is known."""
 
     def flush(self) -> None:
-        """Makes sure of all rows that were taken."""
+        """Writes all rows that were recorded."""
 
     def put(self, row: Row) -> None:
-        """Takes a row in its turn, with what it is the same as."""
+        """Takes a row in the order of the run, with what it is the same as."""
 
     def close(self) -> None:
         """Ends what is written, once all rows are there."""
@@ -47,15 +48,15 @@ def lock(name: str, flags: int = os.O_RDONLY) -> int:
         is_there = os.path.samestat(os.stat(name), os.fstat(handle))
     except (BlockingIOError, FileNotFoundError):
         is_there = False
-    if not is_there:  # the other run may have just put it in its place
+    if not is_there:  # the other run may have just renamed it
         os.close(handle)
-        raise UnreadableError(f"another run writes {name}")
+        raise UnreadableError(f"another run is writing {name}")
     return handle
 
 
 class NewFile:
-    """A file that takes its place at the end: until then it is NAME.new, which this run alone
-    writes."""
+    """A file that replaces an older one when it is complete: until then it is NAME.new, which no
+    other run writes."""
 
     def __init__(self, name: str) -> None:
         self._name, self._new = name, f"{name}.new"
@@ -63,21 +64,21 @@ class NewFile:
         self.file.truncate(0)
 
     def close(self) -> None:
-        """Puts the file in its place."""
+        """Replaces the older file."""
         self.file.flush()
         os.replace(self._new, self._name)
         self.file.close()
 
     def discard(self) -> None:
-        """Leaves the place as it was."""
+        """Leaves the older file as it is."""
         os.unlink(self._new)
         with contextlib.suppress(OSError):  # a full disk
             self.file.close()
 
 
 def write_file(name: str, data: bytes) -> None:
-    """Writes a file with the folders that it lies in. Until it is whole it is called `.new`: a name
-    may have no room for more."""
+    """Writes a file, and makes its folders. Until it is complete it is called `.new`, since a name
+    may not be any longer."""
     folder = os.path.dirname(name) or "."
     os.makedirs(folder, exist_ok=True)
     new = os.path.join(folder, ".new")
@@ -118,51 +119,63 @@ def _print(line: str) -> None:
 class Lines(Sink):
     """Rows as lines of JSON in a file.
 
-    Each is written behind the lines that are there as soon as it is known. When the run has ended
-    well, a new file takes their place, with the rows of this run in order.
+    Each is appended as soon as it is known. When the run has ended well, a new file with its rows
+    in order replaces this one.
     """
 
     def __init__(self, name: str, is_resumed: bool) -> None:
         self._new = NewFile(name)
-        self._file = open(name, "a+b")
-        self._kept: dict[str, int] = {}  # where the row with a key begins
+        self._file, self._cache = open(name, "ab"), open(name, "rb")
+        self._offsets: dict[str, int] = {}  # of the rows, by their keys
+        self._waiting: dict[
+            int, bytes
+        ] = {}  # the lines of rows whose turn has not come, by their ids
         self._index(is_resumed)
 
     def _index(self, is_resumed: bool) -> None:
-        """Finds the rows that are there. A line that is not whole is cut off."""
-        self._file.seek(0)
+        """Finds the rows that are there. An incomplete line is cut off."""
         end = 0
-        for line in self._file:
+        for line in self._cache:
             row = _row_of(line) if is_resumed else None
             if line.endswith(b"\n") and row and "key" in row:
-                self._kept[row["key"]] = end
+                self._offsets[row["key"]] = end
             end += len(line) if line.endswith(b"\n") else 0
         self._file.truncate(end)
 
-    def kept(self, key: str) -> Optional[Row]:
+    def cached(self, key: str) -> Optional[Row]:
         """The row with a key."""
-        if key not in self._kept:
+        if key not in self._offsets:
             return None
-        self._file.seek(self._kept[key])
-        return _row_of(self._file.readline())
+        self._cache.seek(self._offsets[key])
+        return _row_of(self._cache.readline())
 
-    def keep(self, row: Row) -> None:
-        self._file.seek(0, os.SEEK_END)
-        self._file.write(text_of(row).encode("ascii") + b"\n")
+    def record(self, row: Row) -> None:
+        line = _line_of(row)
+        self._waiting[id(row)] = line
+        self._file.write(line)
 
     def flush(self) -> None:
         self._file.flush()
 
     def put(self, row: Row) -> None:
-        self._new.file.write(text_of(row).encode("ascii") + b"\n")
+        line = self._waiting.pop(id(row))
+        self._new.file.write(_line_of(row) if "same_as" in row else line)
 
     def close(self) -> None:
         self._new.close()
-        self._file.close()
+        self._end()
 
     def discard(self) -> None:
         self._new.discard()
+        self._end()
+
+    def _end(self) -> None:
+        self._cache.close()
         self._file.close()
+
+
+def _line_of(row: Row) -> bytes:
+    return text_of(row).encode("ascii") + b"\n"
 
 
 def _row_of(line: bytes) -> Optional[Row]:
@@ -214,34 +227,49 @@ _FIELDS = (
     "grade",
     "open",
 )
+_COLUMNS = ("folder", "file", *_FIELDS, "row")
 
 
 class Database(Sink):
-    """A table of SQLite, in which each file has one row: that of the last run."""
+    """A table of SQLite, in which each file of a folder has one row: that of the last run."""
 
-    def __init__(self, name: str) -> None:
+    def __init__(self, name: str, folder: str) -> None:
+        self._folder = encodable(folder)
         self._lock = lock(name, os.O_RDWR | os.O_CREAT)  # closed later than the database
         self._database = sqlite3.connect(name)
-        fields = ", ".join(_FIELDS)
-        self._database.execute(
-            f"CREATE TABLE IF NOT EXISTS puzzles (file TEXT PRIMARY KEY, {fields}, row TEXT)"
-        )
-        self._database.execute("CREATE INDEX IF NOT EXISTS puzzles_by_key ON puzzles (key)")
+        try:
+            is_right = self._begin()
+        except sqlite3.Error as error:
+            raise UnreadableError(f"{name}: {error}") from error
+        if not is_right:
+            raise UnreadableError(f"{name} has another table that is called puzzles")
 
-    def kept(self, key: str) -> Optional[Row]:
+    def _begin(self) -> bool:
+        """Makes the table, unless it is there. False: another one is."""
+        columns = ", ".join(_COLUMNS)
+        self._database.execute(
+            f"CREATE TABLE IF NOT EXISTS puzzles ({columns}, PRIMARY KEY (folder, file))"
+        )
+        found = self._database.execute("PRAGMA table_info(puzzles)")
+        if tuple(column for _, column, *_ in found) != _COLUMNS:
+            return False
+        self._database.execute("CREATE INDEX IF NOT EXISTS puzzles_by_key ON puzzles (key)")
+        return True
+
+    def cached(self, key: str) -> Optional[Row]:
         """The row with a key."""
         found = self._database.execute("SELECT row FROM puzzles WHERE key = ?", (key,)).fetchone()
         return None if found is None else _row_of(found[0])
 
-    def keep(self, row: Row) -> None:
-        name = row["file"].encode("utf-8", "backslashreplace").decode("utf-8")
-        values = [name, *(row.get(field) for field in _FIELDS), text_of(row)]
+    def record(self, row: Row) -> None:
+        fields = [row.get(field) for field in _FIELDS]
+        values = [self._folder, encodable(row["file"]), *fields, text_of(row)]
         marks = ", ".join("?" * len(values))
         self._database.execute(f"INSERT OR REPLACE INTO puzzles VALUES ({marks})", values)
 
     def put(self, row: Row) -> None:
         if "same_as" in row:  # which was not known before
-            self.keep(row)
+            self.record(row)
 
     def flush(self) -> None:
         self._database.commit()

@@ -1,5 +1,4 @@
-"""What is said while an audit runs, on standard error: a bar on a terminal, else a line now and
-then."""
+"""The progress of an audit, on standard error: a bar on a terminal, else a line now and then."""
 
 from __future__ import annotations
 
@@ -18,7 +17,7 @@ class Progress:
 
     def __init__(self, tally: Tally, is_quiet: bool) -> None:
         self._tally, self._is_quiet = tally, is_quiet
-        self._begun = self._said = time.monotonic()
+        self._begun = self._printed = time.monotonic()
         self.is_shown = not is_quiet and sys.stderr.isatty() and not sys.stdout.isatty()
         self._bar: Any = None
 
@@ -32,13 +31,13 @@ class Progress:
             self._bar = tqdm(total=total, unit=" files", dynamic_ncols=True, smoothing=0.1)
 
     def step(self) -> None:
-        """Takes notice of a row that is counted."""
+        """Shows that one more row is counted."""
         if self._bar is not None:
             self._bar.set_postfix_str(counted(self._tally.fitness, FITNESS), refresh=False)
             self._bar.update()
-        elif not self._is_quiet and time.monotonic() - self._said >= EVERY:
-            self._said = time.monotonic()
-            rate = self._tally.total / (self._said - self._begun)
+        elif not self._is_quiet and time.monotonic() - self._printed >= EVERY:
+            self._printed = time.monotonic()
+            rate = self._tally.total / (self._printed - self._begun)
             words = counted(self._tally.fitness, FITNESS)
             line = f"nonobench-audit: {self._tally.total} files, {rate:.0f} a second; {words}"
             print(line, file=sys.stderr, flush=True)

@@ -1,8 +1,7 @@
-"""Files as pictures: told by their first bytes, with their background."""
+"""Reads files as pictures with their backgrounds. The first bytes say what a file is."""
 
 from __future__ import annotations
 
-import re
 from typing import NamedTuple, Optional
 
 from .. import _images
@@ -17,10 +16,11 @@ from .puzzles import (
     MissingLibraryError,
     Options,
     Question,
+    background_named,
     need,
 )
 
-# What a text begins with that an editor saved otherwise than as ASCII or UTF-8.
+# How texts begin that an editor did not save as plain ASCII or UTF-8.
 _ODD_STARTS = {
     b"\xef\xbb\xbf": "it begins with a byte order mark: save it without",
     b"\xff\xfe": "it is UTF-16: save it as UTF-8",
@@ -43,25 +43,12 @@ class Picture(NamedTuple):
     claims: tuple[Optional[Colour], ...] = ()  # backgrounds that are named and not believed
 
 
-def background_named(word: str) -> Optional[Colour]:
-    """A colour that is named as R,G,B, up to 65,535; None for the others, `auto` and `white`.
-    ValueError: it is none of these."""
-    if word in (_AUTO, _WHITE):
-        return None
-    if not re.fullmatch(r"[0-9]{1,5}(,[0-9]{1,5}){2}", word):
-        raise ValueError("must be auto, white, or R,G,B")
-    red, green, blue = map(int, word.split(","))
-    if max(red, green, blue) > 65535:
-        raise ValueError("must be R,G,B of numbers up to 65535")
-    return red, green, blue
-
-
 def picture_of(question: Question, options: Options) -> Picture:
     """The picture of a puzzle."""
     word = _word_of(question, options)
     picture = _read(question, word, options.is_untrusted)
     if question.claimed is not None:
-        claim = background_named(_believed_or_not(question.claimed))
+        claim = background_named(_background_word(question.claimed))
         picture = picture._replace(claims=(*picture.claims, claim))
     if question.givens is None:
         return picture
@@ -122,17 +109,18 @@ def _word_of(question: Question, options: Options) -> str:
     option."""
     if question.background is None:
         return options.background
-    return _believed_or_not(question.background)
+    return _background_word(question.background)
 
 
-def _believed_or_not(named: bytes) -> str:
-    """The word of a file that names a background."""
+def _background_word(named: bytes) -> str:
+    """The word in a file that names a background."""
     word = named.strip().decode("ascii", "replace")
-    need(word != _AUTO, "its background must be white or R,G,B")
     try:
+        need(word != _AUTO, "")
         background_named(word)
-    except ValueError as error:
-        raise UnreadableError(f"its background {error}") from error
+    except ValueError:
+        why = "its background must be white, or R,G,B of numbers up to 65535"
+        raise UnreadableError(why) from None
     return word
 
 
@@ -144,7 +132,7 @@ def _read(question: Question, word: str, is_untrusted: bool) -> Picture:
     need(not odd, odd or "")
     if suffix == "non" or is_non(data) and not _images.is_image(data):
         own = question.background is None or word in (_WHITE, "255,255,255")
-        need(own, "its background is white, as of each .non puzzle")
+        need(own, "a .non puzzle has no background but white")
         return Picture(data, is_non=True)
     if data.startswith(b"P3"):
         named = background_named(word)

@@ -58,7 +58,7 @@ def shown_in(text: bytes, background: Optional[Colour], cells: int) -> tuple[lis
     scale = _number(most)
     shown = colours if scale == 255 else [colour_shown(triple, scale) for triple in colours]
     palette = ["%02x%02x%02x" % triple for triple in shown]
-    return palette, "".join([letters[spot] for spot in spots])
+    return palette, "".join(map(letters.__getitem__, spots))
 
 
 def graded(said: Assessment) -> Row:

@@ -11,23 +11,20 @@ import sys
 from collections import Counter
 from concurrent.futures import Executor, ThreadPoolExecutor
 from types import FrameType
-from typing import Iterable, Iterator, NoReturn, Optional
+from typing import Container, Iterable, Iterator, NoReturn, Optional
 
 from .. import _loading
 from .._answers import UnreadableError
 from .._library import version
 from . import webpbn
-from .arguments import Arguments, arguments_of, fail, refused_elsewhere, unpack_arguments
-from .asking import Entry, Turns, arrivals, digest_of, key_of
+from .arguments import Arguments, arguments_of, fail, unpack_arguments
+from .asking import Entry, Turns, arrivals, digest_of, digests_of, key_of
 from .finding import Found, Search, bytes_of, question_of, walk
 from .outputs import Database, Lines, Printed, Sink, Spreadsheet, Table, lock, write_file
 from .progress import Progress
-from .puzzles import Answer, Row
+from .puzzles import Answer, Question, Row
 from .rows import printable
 from .tally import FAILED, Tally
-
-
-PPM_ENDINGS = [".ppm", ".ppm.cert", ".ppm.givens", ".ppm.background"]  # of what --ppm writes
 
 
 class Stopped(BaseException):
@@ -94,6 +91,20 @@ def _words_of(error: Exception) -> str:
     return printable(str(error) or type(error).__name__)
 
 
+def _row_of_error(name: str, why: str) -> Row:
+    """The row of a file that no process judged."""
+    row = {"file": name, "verdict": "error", "fit": False, "error": why}
+    return {**row, "tool": f"nonobench {version()}"}
+
+
+def _digest_at(path: Optional[str]) -> Optional[str]:
+    """The digest of a file, if there is one."""
+    try:
+        return None if path is None else digest_of(bytes_of(path))
+    except UnreadableError:
+        return None
+
+
 class Run:
     """A run, with what it writes."""
 
@@ -107,10 +118,10 @@ class Run:
         self._made: set[str] = set()  # the files of puzzles
         self._locks: list[int] = []
         self._sinks: list[Sink] = []
-        self._kept: list[Lines | Database] = []
+        self._caches: list[Lines | Database] = []  # for --resume
 
     def _open(self) -> None:
-        """Begins all outputs, which no other run may write."""
+        """Begins all outputs, and locks them."""
         arguments = self._arguments
         for folder in self._folders():
             os.makedirs(folder, exist_ok=True)
@@ -122,41 +133,30 @@ class Run:
         if arguments.csv is not None:
             self._sinks.append(Spreadsheet(arguments.csv))
         if arguments.sqlite is not None:
-            self._sinks.append(Database(arguments.sqlite))
+            folder = os.path.realpath(arguments.folder or ".")
+            self._sinks.append(Database(arguments.sqlite, folder))
         if arguments.jsonl == "-":
             self._sinks.append(Printed())
         elif arguments.jsonl is not None:
             self._sinks.append(Lines(arguments.jsonl, arguments.is_resumed))
         if arguments.is_resumed:
-            self._kept = [one for one in self._sinks if isinstance(one, (Lines, Database))]
+            self._caches = [one for one in self._sinks if isinstance(one, (Lines, Database))]
         if not self._sinks and not arguments.is_quiet:
             self._sinks.append(Table())
 
     def _folders(self) -> list[str]:
-        """The folders of what is made of puzzles, each once."""
-        named = (self._arguments.certify, self._arguments.ppm)
-        return list({os.path.realpath(one): one for one in named if one is not None}.values())
+        """The folders for what is made of puzzles, each once."""
+        return list({os.path.realpath(one): one for one in self._arguments.folders()}.values())
 
     def run(self) -> int:
-        """Judges all, and answers the status. What is there is replaced only by a run that does
-        not fail."""
-        turns = Turns()
+        """Judges all, and answers the status. Only a run that does not fail replaces what is
+        there."""
         try:
             with self._executor() as executor:
                 self._open()
                 self._progress.begin(self._count())
-                for come in arrivals(self._entries(), self._options, executor):
-                    rows = [(number, self._keep(entry, answer)) for number, entry, answer in come]
-                    for sink in self._sinks:
-                        sink.flush()
-                    for number, row in rows:
-                        for due in turns.due(number, row):
-                            self._put(due)
-            self._tally.skipped.update(self._search.skipped)
-            status = FAILED if self._search.failures else self._tally.status()
-            for sink in self._sinks:
-                end = sink.discard if status == FAILED else sink.close
-                end()
+                self._judge(executor)
+            status = self._end()
         except BaseException:
             self._stop()
             raise
@@ -167,15 +167,35 @@ class Run:
         self._say(status == FAILED)
         return status
 
+    def _judge(self, executor: Executor) -> None:
+        """Records rows as answers come, and puts them out in the order of their puzzles."""
+        turns = Turns()
+        for answers in arrivals(self._entries(), self._options, executor):
+            rows = [(number, self._record(answer)) for number, answer in answers]
+            for sink in self._sinks:
+                sink.flush()
+            for number, row in rows:
+                for due in turns.due(number, row):
+                    self._put(due)
+
+    def _end(self) -> int:
+        """Ends all outputs, and answers the status."""
+        self._tally.skipped.update(self._search.skipped)
+        status = FAILED if self._search.failures else self._tally.status()
+        for sink in self._sinks:
+            end = sink.discard if status == FAILED else sink.close
+            end()
+        return status
+
     def _stop(self) -> None:
-        """Leaves what was there before, with the rows that are kept, and says so."""
+        """Leaves what was there before, with the rows that were recorded, and says so."""
         for sink in self._sinks:
             with contextlib.suppress(OSError, sqlite3.Error):
                 sink.discard()
         if self._sinks:
-            is_kept = any(isinstance(sink, (Lines, Database)) for sink in self._sinks)
+            can_resume = any(isinstance(sink, (Lines, Database)) for sink in self._sinks)
             why = f"stopped after {self._tally.total} puzzles"
-            again = "; --resume goes on" if is_kept else ""
+            again = "; --resume goes on" if can_resume else ""
             print(f"nonobench-audit: {why}{again}", file=sys.stderr)
 
     @contextlib.contextmanager
@@ -192,8 +212,10 @@ class Run:
 
     def _count(self) -> Optional[int]:
         """The number of rows, for the bar."""
-        if not self._progress.is_shown or self._arguments.folder is None:
+        if not self._progress.is_shown:
             return None
+        if self._arguments.folder is None:
+            return len(self._arguments.files)
         search = Search(self._arguments.beside, self._options.is_untrusted)
         return sum(1 for _ in search.folder(self._arguments.folder))
 
@@ -201,87 +223,65 @@ class Run:
         arguments = self._arguments
         if arguments.folder is not None:
             return self._search.folder(arguments.folder)
-        if arguments.list_of_files is None:
-            return self._search.files(arguments.files)
-        return self._search.files(_names_in(arguments.list_of_files, arguments))
+        return self._search.files(arguments.files)
 
     def _entries(self) -> Iterator[Entry]:
-        """Each puzzle as a question, or with the row that is kept of it."""
+        """Each puzzle as a question, or with its row of an earlier run."""
         for found in self._found():
             try:
                 question = question_of(found)
             except UnreadableError as error:
-                said: Row = {"file": found.name, "verdict": "error", "fit": False}
-                yield Entry(None, {**said, "error": str(error), "tool": f"nonobench {version()}"})
+                yield Entry(None, _row_of_error(found.name, str(error)))
                 continue
-            key = key_of(question, self._options)
-            row = self._row_kept(question.name, key)
-            yield Entry(question, key=key) if row is None else Entry(None, row, key)
+            row = self._cached_row(question) if self._caches else None
+            yield Entry(question) if row is None else Entry(None, row)
 
-    def _row_kept(self, name: str, key: str) -> Optional[Row]:
-        """The row of an earlier run whose key is the same, if all that it names is there, and it
-        is not to be tried with other bounds."""
-        for kept in self._kept:
-            row = kept.kept(key)
+    def _cached_row(self, question: Question) -> Optional[Row]:
+        """The row of an earlier run with the same key, if the files that it names are there, and no
+        bound that left it undecided has changed."""
+        key = key_of(question, digests_of(question), self._options)
+        for cache in self._caches:
+            row = cache.cached(key)
             if row is None or row.get("limit", self._options.limit()) != self._options.limit():
                 continue
             row.pop("same_as", None)
-            files = row.get("files", {})
-            if all(self._digest_of(name, ending) == files[ending] for ending in files):
-                return {**row, "file": name}
+            paths, digests = self._arguments.paths_of(question.name), row.get("files", {})
+            if all(_digest_at(paths.get(ending)) == digests[ending] for ending in digests):
+                return {**row, "file": question.name}
         return None
 
-    def _path_of(self, name: str, ending: str) -> str:
-        """Where a file of a puzzle is written."""
-        folder = self._arguments.certify if ending == ".cert" else self._arguments.ppm
-        return os.path.join(folder or "", name + ending)
-
-    def _digest_of(self, name: str, ending: str) -> Optional[str]:
-        try:
-            return digest_of(bytes_of(self._path_of(name, ending)))
-        except UnreadableError:
-            return None
-
-    def _write(self, name: str, files: dict[str, bytes], kept: Iterable[str]) -> None:
-        """Writes what was made of a puzzle. What is there of it besides goes, but for what is
-        kept."""
-        for ending in self._endings():
-            path = self._path_of(name, ending)
+    def _write(self, name: str, files: dict[str, bytes], endings: Container[str]) -> None:
+        """Writes what was made of a puzzle. Its files that are there already stay if their endings
+        are among some; others are deleted."""
+        for ending, path in self._arguments.paths_of(name).items():
             if ending in files:
                 write_file(path, files[ending])
-            elif ending not in kept and (os.path.isfile(path) or os.path.islink(path)):
+            elif ending not in endings and (os.path.isfile(path) or os.path.islink(path)):
                 os.unlink(path)
-        made = [self._path_of(name, ending) for ending in kept]
-        self._made.update(map(os.path.normpath, made))
+            if ending in endings:
+                self._made.add(os.path.normpath(path))
 
-    def _endings(self) -> list[str]:
-        made = [".cert"] if self._arguments.certify is not None else []
-        return made + (PPM_ENDINGS if self._arguments.ppm is not None else [])
-
-    def _keep(self, entry: Entry, answer: Answer) -> Row:
+    def _record(self, answer: Answer) -> Row:
         """Writes what was made, and then the row. A full disk ends the run; what else cannot be
         written is the puzzle's error."""
         row = answer.row
-        if entry.key and answer.is_lasting:
-            row["key"] = entry.key
         try:
             self._write(row["file"], answer.files, row.get("files", {}).keys())
         except OSError as error:
             if error.errno in (errno.ENOSPC, errno.EDQUOT):
                 raise
             why = f"{error.filename2 or error.filename}: {error.strerror}"
-            row = {"file": row["file"], "verdict": "error", "fit": False, "error": why}
-            row["tool"] = f"nonobench {version()}"
+            row = _row_of_error(row["file"], why)
             with contextlib.suppress(OSError):
                 self._write(row["file"], {}, ())
         self._tally.put(row)
         for sink in self._sinks:
-            sink.keep(row)
+            sink.record(row)
         self._progress.step()
         return row
 
     def _put(self, row: Row) -> None:
-        """Writes a row in its turn."""
+        """Writes a row in the order of the run."""
         shape = row.get("shape")
         if shape is not None and self._shapes.setdefault(shape, row["file"]) != row["file"]:
             row["same_as"] = self._shapes[shape]
@@ -290,7 +290,7 @@ class Run:
             sink.put(row)
 
     def _others(self) -> Iterator[str]:
-        """What lies in the folders of this run and is not of its puzzles."""
+        """How many files in the folders for output belong to no puzzle of this run."""
         for folder in self._folders():
             paths = [
                 os.path.normpath(os.path.join(folder, below, name))
@@ -298,11 +298,12 @@ class Run:
                 for name in names
             ]
             count = sum(path not in self._made for path in paths)
+            noun = "file belongs" if count == 1 else "files belong"
             if count:
-                yield f"{printable(folder)}: {count} files of no puzzle of this run"
+                yield f"{printable(folder)}: {count} {noun} to no puzzle of this run"
 
     def _say(self, is_failed: bool) -> None:
-        """The last lines: what was judged, and what went wrong."""
+        """Prints the last lines: what was judged, and what went wrong."""
         lines = [_words_of(error) for error in self._search.failures]
         lines += [
             f"{count} not read, since {library} is not installed (pip install {library})"
@@ -321,18 +322,3 @@ class Run:
         is_free = "-" not in (self._arguments.jsonl, self._arguments.csv)
         output = sys.stdout if is_free else sys.stderr
         print("\n" * is_table + "\n".join(self._tally.summary()), file=output)
-
-
-def _names_in(name: str, arguments: Arguments) -> Iterator[str]:
-    """The names that a file has, or standard input."""
-    has_folder = arguments.beside or arguments.certify or arguments.ppm
-    coding = {"encoding": "utf-8", "errors": "surrogateescape"}
-    with open(0 if name == "-" else name, **coding) as lines:  # type: ignore[call-overload]
-        for line in lines:
-            path = line.rstrip("\n")
-            if has_folder and refused_elsewhere(path):
-                raise UnreadableError(
-                    f"{printable(path)}: no place below --beside, --certify or --ppm"
-                )
-            if path:
-                yield path

@@ -19,7 +19,8 @@ def shape_of(picture: str) -> str:
     columns = list(map(bytes, zip(*rows)))
     colours = [letter for letter in _LETTERS if chr(letter) in picture]
     counts = _turned(_counts(rows), _counts(columns))
-    across, down = (_clues(lines, colours) for lines in (rows, columns))
+    clues = _clues(rows + columns, colours)
+    across, down = clues[: len(rows)], clues[len(rows) :]
     back, up = [clue[::-1] for clue in across], [clue[::-1] for clue in down]
     texts = (
         (across, down),
@@ -62,13 +63,11 @@ def _turned(rows: list[int], columns: list[int]) -> Sequence[tuple[list[int], li
 
 def _clues(lines: list[bytes], colours: list[int]) -> list[bytes]:
     """The clue of each line: its blocks as letters, with a comma between two of one colour."""
-    text = b"/".join(lines)
-    while b".." in text:
-        text = text.replace(b"..", b".")
+    text = b" ".join(b"/".join(lines).replace(b".", b" ").split())  # one blank for each gap
     for colour in colours:
-        apart, marked = b"%c.%c" % (colour, colour), b"%c,%c" % (colour, colour)
-        text = text.replace(apart, marked).replace(apart, marked)  # two in `a.a.a` overlap
-    return text.replace(b".", b"").split(b"/")
+        apart, marked = b"%c %c" % (colour, colour), b"%c,%c" % (colour, colour)
+        text = text.replace(apart, marked).replace(apart, marked)  # two in `a a a` overlap
+    return text.replace(b" ", b"").split(b"/")
 
 
 def _recoloured(form: bytes, colours: list[int]) -> bytes:

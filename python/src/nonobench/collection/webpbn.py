@@ -25,7 +25,7 @@ from .puzzles import (
 
 SPACE = " \t\r\n"  # of XML; other letters count nowhere for blanks
 GIVENS = "givens"
-SEVERAL = "{} puzzles, and a file has one: nonobench-audit unpack SET.xml DIR"
+SEVERAL = "this has {} puzzles: nonobench-audit unpack SET.xml DIR writes a file for each"
 # A text of the format declares nothing but which format it is.
 _DOCTYPE = re.compile(
     rf'<!DOCTYPE[{SPACE}]+[a-z]+([{SPACE}]+SYSTEM[{SPACE}]+"[^"<>]*")?[{SPACE}]*>'
@@ -217,8 +217,8 @@ def _order(inks: dict[str, Ink], ground: str, used: set[str]) -> tuple[list[Ink]
 
 
 def _apart(triples: list[Colour]) -> list[Colour]:
-    """Colours that are declared alike stay two, as near as they can be, so that it is told that
-    they look alike."""
+    """Colours of which no two are equal. Those that are declared so differ as little as they can,
+    so that they are found to look alike."""
     made: list[Colour] = []
     for red, green, blue in triples:
         blues = sorted(range(256), key=lambda other: abs(other - blue))
@@ -258,8 +258,7 @@ def _sign(cell: str) -> str:
 
 
 def _clues(element: Any, axis: str, usual: str) -> Optional[list[list[tuple[int, str]]]]:
-    """The clues of an axis as lengths with names of colours, or none where the puzzle does not tell
-    them."""
+    """The clues of an axis as lengths with names of colours, or none if the puzzle has none."""
     clues = _only(
         [one for one in element.findall("clues") if one.get("type") == axis],
         f"the clues of the {axis}",
@@ -280,7 +279,7 @@ def _length(count: Any) -> int:
 
 
 def _compare(cells: list[list[str]], ground: str, clues: dict[str, Any]) -> None:
-    """Clues that stand in the file must be those of the goal."""
+    """Refuses clues that are not those of the goal."""
     for axis, lines in (("rows", cells), ("columns", zip(*cells))):
         is_right = clues[axis] is None or clues[axis] == [_blocks(line, ground) for line in lines]
         need(is_right, f"the clues of the {axis} are not those of the solution")
@@ -297,17 +296,17 @@ def _givens(saved: Signs, signs: Signs) -> bytes:
         (len(saved), len(saved[0])) == (len(signs), len(signs[0])),
         "the givens have another size than the solution",
     )
-    places = [
+    cells = [
         (row, column)
-        for row, cells in enumerate(saved)
-        for column, sign in enumerate(cells)
+        for row, line in enumerate(saved)
+        for column, sign in enumerate(line)
         if sign != "?"
     ]
     need(
-        all(saved[row][column] == signs[row][column] for row, column in places),
+        all(saved[row][column] == signs[row][column] for row, column in cells),
         "a given has another colour than the solution",
     )
-    return b"".join(b"given %d %d\n" % (row + 1, column + 1) for row, column in places)
+    return b"".join(b"given %d %d\n" % (row + 1, column + 1) for row, column in cells)
 
 
 def _non_text(clues: dict[str, Any]) -> bytes:

@@ -21,8 +21,7 @@ _FOLDER = Path(__file__).resolve().parent
 
 
 class Report(Sink):
-    """Gathers rows in a file, and makes the report of them in the end, with what was counted of
-    them."""
+    """Gathers rows in a file, and in the end makes the report of them and of their counts."""
 
     def __init__(self, name: str, title: str, tally: Tally) -> None:
         self._environment = _environment()
@@ -71,7 +70,7 @@ class Report(Sink):
         self._new.close()
 
     def _figures(self) -> dict[str, Any]:
-        """What the front of the page tells, as numbers and shares."""
+        """The numbers and shares at the front of the page."""
         tally = self._tally
         tallest = max(tally.grades.values(), default=1)
         sides = [(most, [self._sides[most, name] for name in FITNESS]) for most in SIDES]
@@ -105,7 +104,8 @@ def record_of(row: Row, flaws: list[int]) -> list[Any]:
     """A row with the numbers of its flaws, as the page's script reads it. What is empty at its end
     is left out."""
     figures = row.get("figures", {})
-    givens = [(place[0] - 1) * row["columns"] + place[1] - 1 for place in row.get("givens", ())]
+    width = row.get("columns", 0)
+    givens = [(r - 1) * width + c - 1 for r, c in row.get("givens", ())]
     record: list[Any] = [
         printable(row["file"]),
         row.get("title", ""),
