@@ -200,8 +200,8 @@ def step_of(name, rest, has_lemmas=False):
 
 
 def read_givens(text):
-    """The cells of a file of givens."""
-    givens = [given_of(line) for line in lines_of(text)]
+    """The cells of a file of givens; a carriage return may come before each line feed."""
+    givens = [given_of(line.removesuffix('\r')) for line in lines_of(text)]
     if len(set(givens)) < len(givens):
         raise Refused('a published cell occurs twice')
     return set(givens)

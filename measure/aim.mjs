@@ -72,7 +72,7 @@ for (const name of readdirSync(folder).filter((one) => one.endsWith('.ppm')).sor
               .length;
       rows.push({
         name,
-        way: `${report.word} to ${word}`,
+        change: `${report.word} to ${word}`,
         first: found[0]?.ms,
         least: Math.min(...found.filter(({cells}) => cells).map(({cells}) => cells.length)),
         given: found.some(({given}) => given)
@@ -84,11 +84,11 @@ for (const name of readdirSync(folder).filter((one) => one.endsWith('.ppm')).sor
 console.log(
     '| from to | pictures | reached | 1 cell | 2 | 3 | 4 | 1 given | first ms, median | largest |\n|---|---|---|---|---|---|---|---|---|---|'
 );
-for (const way of [...new Set(rows.map((row) => row.way))].sort()) {
-  const some = rows.filter((row) => row.way === way);
+for (const change of [...new Set(rows.map((row) => row.change))].sort()) {
+  const some = rows.filter((row) => row.change === change);
   const first = some.map((row) => row.first).filter((one) => one !== undefined);
   console.log(`| ${
-          [way,
+          [change,
            some.length,
            first.length,
            ...[1, 2, 3, 4].map((size) => some.filter((row) => row.least === size).length),

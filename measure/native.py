@@ -54,8 +54,8 @@ def collected(words, said=''):
         said,
         50 * SECONDS,
     )
-    told = run and re.search(r'Collected : (\d+)', run.stderr)
-    return (int(told[1]) if told else None), run.stdout if run else ''
+    collected = run and re.search(r'Collected : (\d+)', run.stderr)
+    return (int(collected[1]) if collected else None), run.stdout if run else ''
 
 
 def less(cost, start):

@@ -57,7 +57,7 @@ from others_tables import (  # noqa: E402
     read_rows,
     write_rows,
 )
-from reference.faults import Fault  # noqa: E402
+from plain_forms import Fault  # noqa: E402
 from reference.lines import clues_of, line_of, names  # noqa: E402
 from reference.pictures import read_ppm  # noqa: E402
 from reference.search import is_other  # noqa: E402

@@ -57,10 +57,10 @@ def write_rows(path, rows):
 
 def by(key, rows):
     """The rows as lists by one of their columns, in the order in which its values first occur."""
-    held = {}
+    groups = {}
     for row in rows:
-        held.setdefault(row[key], []).append(row)
-    return held
+        groups.setdefault(row[key], []).append(row)
+    return groups
 
 
 def of_solvers(rows):

@@ -39,7 +39,7 @@ const press = (row, col) => new Promise((done) => {
   tools.colour = bench.state.picture[row][col] === 'a' ? 'b' : 'a';
   const {view, geometry: at, stage} = sheet;
   const box = view.getBoundingClientRect();
-  const place = {
+  const pointer = {
     clientX: box.left + (at.x(col) + at.cell / 2) / at.scale,
     clientY: box.top + (at.y(row) + at.cell / 2) / at.scale,
     pointerId: 1,
@@ -47,7 +47,7 @@ const press = (row, col) => new Promise((done) => {
     button: 0
   };
   view.setPointerCapture = () => {};
-  view.dispatchEvent(new PointerEvent('pointerdown', place));
+  view.dispatchEvent(new PointerEvent('pointerdown', pointer));
   requestAnimationFrame(() => requestAnimationFrame(() => {
                           const from = performance.now();
                           new MutationObserver((_, watch) => {
@@ -55,7 +55,7 @@ const press = (row, col) => new Promise((done) => {
                             const drawn = performance.now() - from;
                             requestAnimationFrame(() => done([drawn, performance.now() - from]));
                           }).observe(stage, {attributes: true, attributeFilter: ['data-drawn']});
-                          view.dispatchEvent(new PointerEvent('pointerup', place));
+                          view.dispatchEvent(new PointerEvent('pointerup', pointer));
                         }));
 });
 
@@ -75,7 +75,7 @@ try {
     await trial.open(ppmOf(rows, palette));
     const times = [];
     for (let turn = 0; turn < turns; turn++) {
-      await trial.settled(60000);
+      await trial.settled();
       times.push(await trial.page.run(press, 3 + ((turn * 3) % (rows.length - 5)), 5 + (turn % 7)));
     }
     console.log(`${name}: ${

@@ -31,7 +31,10 @@ const waves = (x, y, by) =>
     Math.sin(x / by + 2 * Math.sin(y / by)) * Math.cos(y / (by * 0.8) - x / (by * 2.3));
 const mixed = (one, other, share) =>
     one.map((sample, axis) => sample + (other[axis] - sample) * Math.max(0, Math.min(1, share)));
+
+// Colours: each gives the samples at a place of the picture.
 const plain = (...triple) => () => triple;
+// From one colour to another, by a share between 0 and 1 at each place.
 const faded = (from, to, at) => (x, y) => mixed(from, to, at(x, y));
 const down = (x, y) => y / SIDE;
 const lit = (triple, dark, cx, cy, r) => (x, y) =>
@@ -40,6 +43,8 @@ const cloth = (triple) => (x, y) =>
     triple.map((sample) => sample * (0.86 + 0.14 * Math.sin(x / 7 + y / 31)));
 const rough = (triple, by, depth) => (x, y) =>
     triple.map((sample) => sample * (1 + depth * waves(x, y, by)));
+
+// Parts: each tells whether a place is in it.
 const oval = (cx, cy, rx, ry) => (x, y) => ((x - cx) / rx) ** 2 + ((y - cy) / ry) ** 2 <= 1;
 const box = (left, top, right, bottom) => (x, y) =>
     x >= left && x < right && y >= top && y < bottom;

@@ -94,7 +94,7 @@ def of_c(folder):
         str(folder / "rates"),
     ]
     subprocess.run(words, check=True)
-    return told([str(folder / "rates"), str(folder / "pairs"), str(ROUNDS)])
+    return rates_of([str(folder / "rates"), str(folder / "pairs"), str(ROUNDS)])
 
 
 def of_javascript(folder):
@@ -102,12 +102,12 @@ def of_javascript(folder):
     module = os.environ.get("WASM", str(ROOT / "web" / "out" / "nonobench.wasm"))
     if shutil.which("node") is None or not Path(module).is_file():
         return None
-    return told(
+    return rates_of(
         ["node", str(ROOT / "measure" / "rates.mjs"), module, str(folder / "pairs"), str(ROUNDS)]
     )
 
 
-def told(words):
+def rates_of(words):
     """The rates that a program prints."""
     return [
         float(word)

@@ -99,8 +99,11 @@ static const wchar_t *as_opened(const wchar_t *path) {
   DWORD size = GetFullPathNameW(path, MOST_UNITS, from, 0);
   if (size < MAX_PATH || size >= MOST_UNITS || !wcsncmp(path, L"\\\\?\\", 4)) return path;
   int is_share = from[0] == L'\\' && from[1] == L'\\';
-  if (is_share && (from[2] == L'?' || from[2] == L'.') && from[3] == L'\\')
-    return from[2] = L'?', from;
+  int is_device = is_share && (from[2] == L'?' || from[2] == L'.') && from[3] == L'\\';
+  if (is_device) {
+    from[2] = L'?';
+    return from;
+  }
   from -= is_share ? 6 : 4;
   wmemcpy(from, is_share ? L"\\\\?\\UNC" : L"\\\\?\\", is_share ? 7 : 4);
   return from;

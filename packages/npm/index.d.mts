@@ -3,5 +3,5 @@ import type { Engine } from './nonobench.mjs';
 
 export * from './nonobench.mjs';
 
-/** Makes an engine: of the package's own module where none is given. */
+/** Makes an engine: of the package's own module if none is given. */
 export function load(module?: Uint8Array | ArrayBuffer | WebAssembly.Module): Promise<Engine>;

@@ -48,8 +48,9 @@ export class LimitedEngine {
 
   /** Opens a bench, whose calls are promises too. It ends with its worker. */
   async open(...words) {
-    const {value: number, worker} = await this.#ask('open', words);
+    const {value: {number, palette}, worker} = await this.#ask('open', words);
     return {
+      palette,
       say: (lines) => this.#value('say', [number, lines], worker),
       close: () => this.#value('close', [number], worker)
     };
@@ -162,8 +163,9 @@ export function answering(load) {
     clues: (words) => engine.clues(...words),
     version: () => engine.version,
     open(words) {
-      benches.set(last += 1, engine.open(...words));
-      return last;
+      const bench = engine.open(...words);
+      benches.set(last += 1, bench);
+      return {number: last, palette: bench.palette};
     },
     say: ([number, lines]) => benchOf(number).say(lines),
     close([number]) {

@@ -46,7 +46,7 @@ const TASKS = {
 
   async clues({options}) {
     const picture = readInput();
-    write((await load()).clues(picture, options));
+    write((await load()).clues(picture, options).text);
   },
 
   check,

@@ -72,7 +72,7 @@ export function readFile(path) {
 }
 
 /**
- * Hands the lines of standard input to a call, each as soon as it has come: its bytes with the
+ * Passes the lines of standard input to a call, each as soon as it has come: its bytes with the
  * line feed.
  */
 export function eachLine(call) {

@@ -346,7 +346,9 @@ test('a worker answers as an engine does', async (t) => {
   await assert.rejects(worker.clues(() => {}), {name: 'DataCloneError'});
   const bytes = new TextEncoder().encode(DIAGONAL), asked = worker.clues(bytes);
   bytes.fill(0);
-  assert.equal(await asked, engine.clues(DIAGONAL));
+  assert.deepEqual(await asked, engine.clues(DIAGONAL));
+  const bench = await worker.open(DIAGONAL);
+  assert.deepEqual(bench.palette, engine.open(DIAGONAL).palette);
 });
 
 test('a bench of a worker answers until it or its worker ends', async (t) => {
@@ -374,7 +376,7 @@ test('a call that takes too long ends the worker, and the next one starts anothe
   for (const call of asked) await assert.rejects(call, late);
   await assert.rejects(bench.say('verdict\n'), {kind: 'ended'});
   const clues = await eventually(() => worker.clues(DIAGONAL));
-  assert.equal(clues, 'r 1: 1a\nr 2: 1a\nc 1: 1a\nc 2: 1a\n');
+  assert.equal(clues.text, 'r 1: 1a\nr 2: 1a\nc 1: 1a\nc 2: 1a\n');
   for (const seconds of [0, -1, NaN, Infinity, '5'])
     assert.throws(() => new Worker({seconds}), {kind: 'option'});
 });
@@ -397,7 +399,7 @@ test('a certificate that an editor changed is told so, on a line of its own', (t
   const args = ['check', example('diagonal.ppm'), file];
   const {status, stdout, stderr} =
       spawnSync(process.execPath, [program, ...args], {encoding: 'utf8'});
-  const hint = 'nonobench: its lines end with CR LF, and must end with LF alone\n';
+  const hint = 'nonobench: its lines end with CR LF, and must end with LF only\n';
   assert.deepEqual([status, stdout, stderr], [1, '', done(args).said + hint]);
 });
 

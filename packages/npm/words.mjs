@@ -1,6 +1,6 @@
 // The arguments of the program: what they ask for, or why they are refused. Node's parseArgs cuts
 // them, and they are taken from the left, as the native program takes them: of two mistakes the
-// first is told. Help and the version go alone.
+// first is reported. Help and the version go alone.
 import {parseArgs} from 'node:util';
 import {Ending, ended} from './ending.mjs';
 
