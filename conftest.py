@@ -35,7 +35,7 @@ WANTED = {
     'test_puzzles': {'PIL': 'Pillow', 'defusedxml': 'defusedxml'},
     'test_service': {'flask': 'Flask', 'PIL': 'Pillow', 'defusedxml': 'defusedxml'},
 }
-KEPT = pytest.StashKey()
+BUILD = pytest.StashKey()
 LEFT_OUT = pytest.StashKey()
 
 
@@ -72,17 +72,17 @@ def pytest_configure(config):
     if is_first:  # so that not each of some hundred runs of the audit reads Python's sources anew
         compileall.compile_dir(tried.ROOT / 'python' / 'src', quiet=2)
     if not config.getoption('released') and left.program('nonobench').exists():
-        config.stash[KEPT] = left
+        config.stash[BUILD] = left
     else:
         if is_first:
             os.environ['SCRATCH'] = tempfile.mkdtemp(prefix='nonobench-tests-')
-        config.stash[KEPT] = tried.Release(Path(os.environ['SCRATCH']))
+        config.stash[BUILD] = tried.Release(Path(os.environ['SCRATCH']))
         if is_first:
-            config.stash[KEPT].unpack()
-    kept = config.stash[KEPT]
+            config.stash[BUILD].unpack()
+    build = config.stash[BUILD]
     os.environ.update(
-        NONOBENCH=str(kept.program('nonobench')),
-        NONOBENCH_LIBRARY=str(kept.library),
+        NONOBENCH=str(build.program('nonobench')),
+        NONOBENCH_LIBRARY=str(build.library),
         PYTHONPATH=str(tried.ROOT / 'python' / 'src'),
     )
     os.environ.setdefault(
@@ -90,8 +90,8 @@ def pytest_configure(config):
     )  # a factor for the bounds of time, since many tests run at once
     # where there is no mark, and for sizes
     os.environ['SHORT'] = '' if 'all' in config.getoption('with') else WHY_LONG.format('all')
-    if kept.released and tried.changed_crates() != []:
-        os.environ['TRIED'] = kept.version  # tests/waits.mjs
+    if build.released and tried.changed_crates() != []:
+        os.environ['TRIED'] = build.version  # tests/waits.mjs
 
 
 def heed_signals():
@@ -110,10 +110,10 @@ def pytest_unconfigure(config):
 
 
 def pytest_report_header(config):
-    return f'tried: {config.stash[KEPT].name}'
+    return f'tried: {config.stash[BUILD].name}'
 
 
-def unread(file, kept):
+def unread(file, build):
     """Why a file of tests cannot be read here, or None: the library was not built, or Python lacks
     one."""
     if not file.name.startswith('test_') or 'python' not in file.parts:
@@ -125,19 +125,19 @@ def unread(file, kept):
         for module, name in modules.items()
     }
     missing = [name for module, name in wanted.items() if not importlib.util.find_spec(module)]
-    if not kept.library.exists():
+    if not build.library.exists():
         missing.append('c/out/libnonobench.so, which c/build makes')
     return f'there is no {missing[0]} for {file.name}' if missing else None
 
 
 def pytest_ignore_collect(collection_path, config):
-    return True if unread(collection_path, config.stash[KEPT]) else None
+    return True if unread(collection_path, config.stash[BUILD]) else None
 
 
 def pytest_collection_modifyitems(config, items):
     """Leaves out what is not asked for or cannot be tried here, and counts it by its reason."""
-    kept = config.stash[KEPT]
-    changed = tried.changed_crates() if kept.released else []
+    build = config.stash[BUILD]
+    changed = tried.changed_crates() if build.released else []
     chosen, left_out = [], collections.Counter()
     for item in items:
         why = why_not(item, config, changed)
@@ -145,7 +145,11 @@ def pytest_collection_modifyitems(config, items):
             left_out[why] += 1
         else:
             chosen.append(item)
-        if not kept.released and 'made' in item.fixturenames and 'program' not in item.fixturenames:
+        if (
+            not build.released
+            and 'made' in item.fixturenames
+            and 'program' not in item.fixturenames
+        ):
             # One process makes the packages and tries them, and the others go on.
             item.add_marker(pytest.mark.xdist_group('packages'))
     items[:] = chosen
@@ -154,11 +158,11 @@ def pytest_collection_modifyitems(config, items):
 
 def why_not(item, config, changed):
     """Why a test is left out, or None."""
-    kept = config.stash[KEPT]
+    build = config.stash[BUILD]
     for name in LONG:
         if name not in config.getoption('with') and item.get_closest_marker(name):
             return WHY_LONG.format(name)
-    if kept.released and item.get_closest_marker('toolchain'):
+    if build.released and item.get_closest_marker('toolchain'):
         return 'it wants the toolchain, or what rt ci leaves'
     for mark in item.iter_markers('since'):
         version = mark.args[0]
@@ -166,7 +170,7 @@ def why_not(item, config, changed):
             raise pytest.UsageError(
                 f'{item.nodeid}: since {version}, which is later than the version of the tree'
             )
-        if kept.released and changed != [] and is_later(version, kept.version):
+        if build.released and changed != [] and is_later(version, build.version):
             return f'it waits for the release {version}, which has its words'
     return None
 
@@ -206,8 +210,10 @@ class Files:
         if report.when == 'teardown':
             self.waiting[file] -= 1
             if not self.waiting[file]:
-                told = ', '.join(f'{count} {outcome}' for outcome, count in sorted(counts.items()))
-                self.say(f'{file}: {told}')
+                counted = ', '.join(
+                    f'{count} {outcome}' for outcome, count in sorted(counts.items())
+                )
+                self.say(f'{file}: {counted}')
 
 
 class FilesOfProcesses(Files):
@@ -238,14 +244,14 @@ def pytest_terminal_summary(terminalreporter, config):
     """Says what was left out, in one line, and writes the counts."""
     if 'PYTEST_XDIST_WORKER' in os.environ:
         return
-    kept = config.stash[KEPT]
+    build = config.stash[BUILD]
     reasons = reasons_of(terminalreporter.stats, config)
     parts = [f'{reason}: {count}' for reason, count in sorted(reasons.items())]
     terminalreporter.write_line(
         f'left out: {"; ".join(parts)}' if parts else 'nothing was left out in this run'
     )
-    if kept.released:
-        terminalreporter.write_line(f'tried: {kept.name}; {what_changed()}')
+    if build.released:
+        terminalreporter.write_line(f'tried: {build.name}; {what_changed()}')
     if config.getoption('counts'):
         stats = terminalreporter.stats
         passed = len(stats.get('passed', ()))
@@ -267,7 +273,7 @@ def reasons_of(stats, config):
         if name == 'left out'
     )
     files = tried.ROOT.glob('python/tests/*.py')
-    reasons.update(why for why in (unread(file, config.stash[KEPT]) for file in files) if why)
+    reasons.update(why for why in (unread(file, config.stash[BUILD]) for file in files) if why)
     return reasons
 
 
@@ -300,26 +306,26 @@ def pytest_generate_tests(metafunc):
 
 
 @pytest.fixture(scope='session')
-def program(request, kept, shared):
+def program(request, build, shared):
     """A program: of this machine, or of the packages."""
     name = request.param
     if name == 'npm':
         return tried.Program(request.getfixturevalue('javascript'), in_node=True)
     if name == 'archive':
         return tried.Program(request.getfixturevalue('installed') / 'bin' / 'nonobench')
-    return tried.Program(kept.program(name))
+    return tried.Program(build.program(name))
 
 
 @pytest.fixture(scope='session')
-def kept(pytestconfig):
-    """What is tried."""
-    return pytestconfig.stash[KEPT]
+def build(pytestconfig):
+    """What is tried: where the programs, the library, the module and the page are."""
+    return pytestconfig.stash[BUILD]
 
 
 @pytest.fixture
-def nonobench(kept):
+def nonobench(build):
     """The program of this machine."""
-    return kept.program('nonobench')
+    return build.program('nonobench')
 
 
 @pytest.fixture(scope='session')
@@ -330,27 +336,27 @@ def shared(tmp_path_factory):
 
 
 @pytest.fixture(scope='session')
-def module(kept):
+def module(build):
     """The module of WebAssembly."""
-    return tried.needs_file(kept.module, 'web/build')
+    return tried.needs_file(build.module, 'web/build')
 
 
 @pytest.fixture(scope='session')
-def library(kept):
+def library(build):
     """The library for C and Python."""
-    return tried.needs_file(kept.library, 'c/build')
+    return tried.needs_file(build.library, 'c/build')
 
 
 @pytest.fixture(scope='session')
-def page(kept, shared):
+def page(build, shared):
     """The page as one file: built, or joined of the scripts of this tree around the module of the
     release."""
-    if not kept.released:
-        return tried.needs_file(kept.page, 'web/build')
+    if not build.released:
+        return tried.needs_file(build.page, 'web/build')
     tried.needs('node', 'esbuild')
 
     def join(folder):
-        shutil.copy(kept.module, folder)
+        shutil.copy(build.module, folder)
         run = tried.ended(['node', tried.ROOT / 'web' / 'join.mjs', tried.ROOT, folder])
         return run.said.decode() if run.status else ''
 
@@ -391,9 +397,9 @@ def others(shared, compiled):
 
 
 @pytest.fixture(scope='session')
-def made(kept, shared, request):
+def made(build, shared, request):
     """The folder of the packages: a candidate, made of what rt ci left, or dist/."""
-    if kept.released:
+    if build.released:
         return tried.ROOT / 'dist'
     candidate = tried.ROOT / 'out' / 'dist'
     parts = {
@@ -420,7 +426,7 @@ def lay_scripts(package):
 
 
 @pytest.fixture(scope='session')
-def npm(made, kept, shared):
+def npm(made, build, shared):
     """A folder in which the package for npm is installed; that of a release has the scripts of this
     tree."""
     tried.needs('node')
@@ -439,7 +445,7 @@ def npm(made, kept, shared):
             why = made_by('tar', 'xzf', package, '-C', modules) or made_by(
                 'mv', modules / 'package', modules / 'nonobench'
             )
-        if kept.released and not why:
+        if build.released and not why:
             lay_scripts(modules / 'nonobench')
         return why
 

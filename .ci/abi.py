@@ -256,10 +256,10 @@ def differences(files, module=None):
         {name: len(kinds) - 1 for name, kinds in checks.items()},
         guarded(files[CHECK_GUARD]),
     )
-    told, again = statuses(files)
-    for file, found in again:
+    wanted, copies = statuses(files)
+    for file, found in copies:
         yield from differing(
-            file, {name: told.get(name) for name in found} or {"a status": "there"}, found
+            file, {name: wanted.get(name) for name in found} or {"a status": "there"}, found
         )
 
 
@@ -331,13 +331,13 @@ def main():
     files = {name: (ROOT / name).read_text(encoding="utf-8") for name in names}
     module = pathlib.Path(sys.argv[1]).read_text(encoding="utf-8") if len(sys.argv) > 1 else None
     found = list(differences(files, module)) or list(unseen(files, module))
-    told, again = statuses(files)
+    wanted, copies = statuses(files)
     beside = "the module too" if module is not None else "no module was named"
     print(
         *found,
         (
             f"abi: {len(exported(files[CALLS]) | exported(files[CHECK_CALLS]))} functions,"
-            f" {beside}; {len(told)} statuses in {len(again)} files;"
+            f" {beside}; {len(wanted)} statuses in {len(copies)} files;"
             f" {len(PLANTED) + (module is not None)} planted; {len(found)} differences"
         ),
         sep="\n",

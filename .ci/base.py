@@ -40,7 +40,7 @@ class Claim(NamedTuple):
 CLAIMS = {
     'The verdict is true': Claim([('live_audit/src/bench.rt', 'verdict', 'headline')], False),
     'A certificate proves uniqueness': Claim(
-        [('answers/src/check.rt', 'run_check_published', 'unique')], False
+        [('claims/src/check.rt', 'published_is_accepted', '')], False
     ),
     'So it does in its own givens': Claim([('answers/src/check.rt', 'run_check', 'unique')]),
     'A check answers exactly': Claim(
@@ -49,7 +49,7 @@ CLAIMS = {
             for name in ('first', 'proof', 'only', 'unique')
         ]
     ),
-    'The checker alone does so, too': Claim(
+    'The checker by itself does so, too': Claim(
         [
             ('check_host/src/calls.rt', call, 'checks')
             for call in ('nonocheck_check', 'nonocheck_check_any_given')
@@ -64,19 +64,19 @@ CLAIMS = {
     'Published pairs are accepted': Claim(
         [
             *(
-                ('published/src/laws.rt', 'published_pairs_are_accepted', name)
+                ('claims/src/laws.rt', 'published_pairs_are_accepted', name)
                 for name in ('accepted', 'made')
             ),
             *(
-                ('published/src/laws.rt', law, '')
+                ('claims/src/laws.rt', law, '')
                 for law in ('unique_pictures_are_published', 'plain_lines_are_one_solution')
             ),
         ]
     ),
-    'What prove prints is accepted': Claim([('published/src/laws.rt', 'proofs_are_verified', '')]),
-    'A complete search decides': Claim([('published/src/laws.rt', 'complete_searches_decide', '')]),
+    'What prove prints is accepted': Claim([('claims/src/laws.rt', 'proofs_are_verified', '')]),
+    'A complete search decides': Claim([('claims/src/laws.rt', 'complete_searches_decide', '')]),
     'A puzzle that is fit has one solution': Claim(
-        [('published/src/laws.rt', 'fit_puzzles_are_fit', '')]
+        [('claims/src/laws.rt', 'fit_puzzles_are_fit', '')]
     ),
     'The program does what its arguments ask for': Claim([('program/src/running.rt', 'run', '')]),
 }
@@ -92,19 +92,17 @@ FIGURES = {
 QUOTED = 'The verdict is true', 'A certificate proves uniqueness'
 HEAD = '''# What the claims depend on
 
-This page is for those who want to read all that a claim of THEOREMS means. For each clause that is
-named below, it lists the definitions on which the clause depends, in reading order. A clause names
-values of the code, such as `self.old.history.document`. What it sees of them are their types'
-*views*: definitions that make, say, a document and its history out of what a bench keeps. These are
-counted and listed after the others, where a clause names such values. (Most laws name none: they
-are about all values of their definitions.) Proofs, code and the definitions of the toolchain are
-left out. A definition that is listed earlier is counted again, but not listed again. The
-definitions of the first two sections are quoted, abbreviations without their types.
+For those who want to read all that a claim of [THEOREMS](THEOREMS.md) means: the definitions on
+which the clauses of a claim depend, in reading order, abbreviations without their types. A clause
+names values of the code, such as `self.old.history.document`, and sees them by their types'
+*views*: definitions that make, say, a document and its history out of what a bench keeps. What only
+views need is named last. (Most laws name no such values.) Types that only a definition names are
+not followed; proofs, code and the definitions of the toolchain are left out. What is listed in an
+earlier section is counted again, but not listed.
 '''
 # What docs/BASE.md, which has only the claims that are quoted, says in the end.
 FOOT = '''
-`make promises` makes the lists of the other claims, and this page is what `.ci/base.py --write`
-makes.
+`make promises` lists the same for all claims; `.ci/base.py --write` makes this page.
 '''
 WORD = re.compile(r'[^\s(){},;λ→×⊎≡≢≤≥+*/∷∘\[\]↔=<>]+')
 
@@ -249,29 +247,29 @@ class House:
         module = self.other_names.get(module, module)
         if module not in self.modules:
             return None
-        held = self.modules[module]
-        if name in held.definitions or name in held.constructors:
-            return held.definitions.get(name) or held.constructors[name]
-        if name in held.imports:
-            return self.find(*held.imports[name])
+        source = self.modules[module]
+        if name in source.definitions or name in source.constructors:
+            return source.definitions.get(name) or source.constructors[name]
+        if name in source.imports:
+            return self.find(*source.imports[name])
         return None
 
     def needs(self, definition):
         """What a definition speaks of, in the order of its words."""
-        held = self.modules[definition.module]
+        source = self.modules[definition.module]
         for line in definition.lines:
             for word in WORD.findall(line.split(' -- ')[0]):
-                found = self.meant(held, word)
+                found = self.meant(source, word)
                 if found is not None and found is not definition:
                     yield found
 
-    def meant(self, held, word):
+    def meant(self, source, word):
         """The definition that a word of a module means, or that a word's part before a dot does."""
         for name in (word, word.partition('.')[0]):
-            if name in held.definitions or name in held.constructors:
-                return self.find(held.name, name)
-            if name in held.imports:
-                module, there = held.imports[name]
+            if name in source.definitions or name in source.constructors:
+                return self.find(source.name, name)
+            if name in source.imports:
+                module, there = source.imports[name]
                 return self.find(module, there or word.partition('.')[2].partition('.')[0])
         return None
 
@@ -378,22 +376,33 @@ def counts(base):
     return of(base.definitions) + (f'; with the views, {of(base.all())}' if base.views else '')
 
 
+def link(definition):
+    return f'[`{definition.name}`](../{definition.file}#L{definition.line})'
+
+
 def items(definitions, quoted):
     """The list of some definitions, with the text of those that are quoted."""
     for definition in definitions:
-        where = f'{definition.file.partition("/")[2]}:{definition.line}'
-        yield (
-            f'- [`{definition.name}`](../{definition.file}#L{definition.line}), {where}:'
-            f' {definition.sentence()}'
-        )
-        if definition in quoted:
+        is_quoted = definition in quoted
+        said = f': {definition.sentence()}' if definition.comment or not is_quoted else ''
+        yield f'- {link(definition)}{said}'
+        if is_quoted:
             yield from ['', '  ```', *(f'  {line}' for line in definition.said()), '  ```', '']
+
+
+def by_file(definitions):
+    """The names of some definitions, an item for each file."""
+    named = collections.defaultdict(list)
+    for definition in definitions:
+        named[definition.file].append(f'`{definition.name}`')
+    for file, names in named.items():
+        yield f'- [{file.partition("/")[2]}](../{file}): {", ".join(names)}'
 
 
 def page(found, titles):
     """The text of a page with the bases of some claims."""
-    parts, known = [HEAD], set()
-    quoted = {definition for title in QUOTED for definition in found[title].all()}
+    parts, known, viewed = [HEAD], set(), set()
+    quoted = {definition for title in QUOTED for definition in found[title].definitions}
     for title, base in ((title, found[title]) for title in titles):
         names = ', '.join(
             f'`{function}`{f" ({clause})" if clause else ""}'
@@ -401,14 +410,13 @@ def page(found, titles):
         )
         parts.append(f'## {title}\n\n{names}: {counts(base)}.\n')
         fresh = [definition for definition in base.definitions if definition not in known]
-        views = [definition for definition in base.views if definition not in known]
-        known.update(base.all())
         parts.extend(items(fresh, quoted))
         parts.append('' if fresh else 'Nothing that is not above.\n')
+        known.update(base.definitions)
+        views = [definition for definition in base.views if definition not in known | viewed]
         if views:
-            parts.extend(
-                ['With the views of the types of its values:\n', *items(views, quoted), '']
-            )
+            parts.extend(['The views of its values need these, too:\n', *by_file(views), ''])
+        viewed.update(views)
     return re.sub(r'\n{3,}', '\n\n', '\n'.join(parts)).rstrip('\n') + '\n'
 
 
@@ -456,9 +464,9 @@ def main():
         return 0
     if '--write' in sys.argv[1:]:
         PAGE.write_text(short_page(found), encoding='utf-8')
-    told = [*faults(found), *figures(found)]
-    print(*told, f'{len(found)} claims, {len(told)} faults', sep='\n')
-    return 1 if told else 0
+    wrong = [*faults(found), *figures(found)]
+    print(*wrong, f'{len(found)} claims, {len(wrong)} faults', sep='\n')
+    return 1 if wrong else 0
 
 
 if __name__ == '__main__':

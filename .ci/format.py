@@ -37,6 +37,8 @@ KINDS = {
 SETTINGS = ('pyproject.toml', '.clang-format')
 # clang-format may take several turns until nothing changes any more.
 TURNS = 4
+# Behind a place that it cannot read, it leaves all as it is. So copies end with a line to format.
+PROBES = {'clang': b'\nx  = 1;\n'}
 
 
 def kind_of(name):
@@ -82,16 +84,24 @@ def put_in_order(words, names):
             return
 
 
-def disorder(words, names):
-    """The files that a formatter would change. It runs over copies, since tests read the files."""
+def disorder(kind, names):
+    """What is wrong with files of a kind. The formatter runs over copies, since tests read the
+    files."""
+    words, probe = FORMATTERS[kind], PROBES.get(kind, b'')
     with tempfile.TemporaryDirectory() as folder:
-        for name in [*names, *SETTINGS]:
-            place = Path(folder, name)
-            place.parent.mkdir(parents=True, exist_ok=True)
-            shutil.copy(ROOT / name, place)
+        for name in SETTINGS:
+            shutil.copy(ROOT / name, folder)
+        for name, content in contents(names).items():
+            copy = Path(folder, name)
+            copy.parent.mkdir(parents=True, exist_ok=True)
+            copy.write_bytes(content + probe)
         run(words, names, folder)
         after = contents(names, Path(folder))
-    return [name for name, content in contents(names).items() if after[name] != content]
+    for name, content in contents(names).items():
+        if probe and after[name].endswith(probe):
+            yield f'{name}: {words[0]} cannot read it to its end'
+        elif after[name] != content + probe.replace(b'  ', b' '):
+            yield f'{name} is not formatted: make format'
 
 
 def main(words):
@@ -103,9 +113,7 @@ def main(words):
         if not shutil.which(tool[0]):
             missing.add(tool[0])
         elif words:
-            faults += [
-                f'{name} is not formatted: make format' for name in disorder(tool, files[kind])
-            ]
+            faults += disorder(kind, files[kind])
         else:
             put_in_order(tool, files[kind])
     for kind, tool in LINTERS.items() if words else ():

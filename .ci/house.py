@@ -2,7 +2,7 @@
 """Names the places that are hard to read: one line for each, and nothing about sums.
 
 - a function of more than 60 lines, of which clauses do not count, or of more than six parameters;
-- a line of a clause above 100 columns;
+- a line above 100 columns in a clause, or in HTML or TypeScript, which no formatter breaks;
 - a source file whose first line does not say what it is;
 - a definition or lemma that nothing names.
 
@@ -35,9 +35,11 @@ TEST_CRATES = {
 }
 MOST_LINES = 60
 MOST_PARAMETERS = 6
-WIDEST_CLAUSE = 100
+WIDEST = 100
 # What these files define the prover looks up by name.
 PROVERS_NAMES = {'Answers.antt', 'Invariants.antt', 'Proof.antt'}
+# Pictures, and what tests read, of which no lines are counted.
+DATA = {'.png', '.gif', '.ppm', '.non', '.session', '.out', '.svg', '.csv', '.cert'}
 TESTS = re.compile(r'(^|/)tests?/|(^|/)(test_|conftest)[^/]*$|_test\.mjs$|(^|/)test\.mjs$')
 
 
@@ -80,8 +82,17 @@ def wide_clauses():
                 inside = True
             elif re.match(r'\s*({|}|//|(pub )?fn |pub\b|$)', line):
                 inside = False
-            if inside and len(line) > WIDEST_CLAUSE:
+            if inside and len(line) > WIDEST:
                 yield f'{name}:{number}: a clause of {len(line)} columns'
+
+
+def wide_lines():
+    """Lines that are too wide of files that no formatter breaks. One is an audit's output."""
+    for name in tracked():
+        if name.endswith(('.html', '.ts', '.mts')) and name != 'docs/audit.html':
+            for number, line in enumerate(text_of(name).split('\n'), 1):
+                if len(line) > WIDEST:
+                    yield f'{name}:{number}: a line of {len(line)} columns'
 
 
 def heads(text):
@@ -247,7 +258,7 @@ def print_sizes():
     sizes = collections.Counter()
     for name in tracked():
         kind = Path(name).suffix or 'scripts'
-        if kind in ('.png', '.ppm', '.non', '.session', '.out', '.svg', '.csv', '.cert'):
+        if kind in DATA:
             continue
         purpose = 'tests' if TESTS.search(name) else name.split('/')[0] if '/' in name else 'top'
         if name.startswith('crates/') and name.split('/')[1] not in TEST_CRATES:
@@ -258,12 +269,9 @@ def print_sizes():
 
 
 # Places that are left out, as `FILE NAME`.
-TO_BE_WRITTEN_AGAIN = {
-    'page/export/printing.js printPuzzle',
-    'page/import/inks.js constructor',
-    'crates/second_search/src/keeper.rt judge',
-    'crates/web/src/calls.rt nonobench_assess',
-}
+TO_BE_WRITTEN_AGAIN = {'crates/second_search/src/keeper.rt judge'}
+# All that a host passes to a function of C is a parameter: a pointer and a length for each text.
+CALLS_OF_HOSTS = {'crates/web/src/calls.rt nonobench_assess'}
 # The prover finds these lemmas by what they say.
 FOUND_BY_THE_PROVER = {
     'crates/assess/proofs/OrderLemmas.antt named_on',
@@ -289,7 +297,7 @@ WORKED_ROWS = {
     'crates/second_search/specs/Evaluations.antt worked_split',
     'crates/second_search/specs/Parts.antt worked_corners',
 }
-KNOWN = TO_BE_WRITTEN_AGAIN | FOUND_BY_THE_PROVER | WORKED_ROWS
+KNOWN = TO_BE_WRITTEN_AGAIN | CALLS_OF_HOSTS | FOUND_BY_THE_PROVER | WORKED_ROWS
 
 
 def main(words):
@@ -298,12 +306,13 @@ def main(words):
         return 0
     checks = (
         wide_clauses,
+        wide_lines,
         long_functions,
         headless_files,
         unused_names,
         proof_sizes,
     )
-    found = [place for check in checks for place in check()]
+    found = [fault for check in checks for fault in check()]
     print(*found, f'house: {len(found)} places', sep='\n')
     return 1 if found else 0
 

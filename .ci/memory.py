@@ -19,7 +19,7 @@ ROOT = pathlib.Path(__file__).resolve().parent.parent
 TESTS = {'refused'}
 # Calls whose only error is that memory ran out, or, for `add`, `set` and `start` of a palette and
 # for what writes into a `Vec`, whose other errors their callers rule out.
-GROWING = 'add|non_text_of|push|set|start|write_cert|write_ppm'
+GROWING = 'add|non_text_of|push|send_givens|set|start|write_cert|write_ppm'
 # A file of crates/*/src, a line of it, and why that line makes the error although no pattern of it
 # names one.
 OTHERS = [
@@ -66,6 +66,11 @@ OTHERS = [
         'a write to a text fails only where memory for it is refused',
     ),
     ('web/src/desk.rt', 'return MEMORY;', 'a text could not be made'),
+    (
+        'web/src/desk.rt',
+        'Err(_) => self.refuse(&ProgramFault::Memory),',
+        'the only error of appending to a text is that memory ran out',
+    ),
     (
         'web/src/desk.rt',
         'let handle = self.given.checked_add(1).ok_or(ProgramFault::Memory)?;',
@@ -123,7 +128,7 @@ def kind_of(line):
     return 'arm' if is_passed else 'other'
 
 
-def places():
+def errors():
     """Each place where the error is made: its file, its line and its kind."""
     for crate in sorted((ROOT / 'crates').iterdir()):
         for file in sorted((crate / 'src').rglob('*.rt')) if crate.name not in TESTS else []:
@@ -142,7 +147,7 @@ def main():
     """Prints each place that is not allowed, and each line of OTHERS that is not there."""
     counts, faults = Counter(), []
     left = Counter((file, line) for file, line, _ in OTHERS)
-    for file, number, line, kind in places():
+    for file, number, line, kind in errors():
         counts[kind] += 1
         if kind == 'other' and not left[file, line]:
             faults.append(

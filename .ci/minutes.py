@@ -85,7 +85,7 @@ def main():
     for kind, crate, seconds in seen.values():
         for row in ('', crate):
             minutes.setdefault(row, dict.fromkeys(KINDS, 0))[kind] += seconds / 60
-    file.write_text(''.join(f'{told}\n' for told in shares(minutes.pop('', {}))))
+    file.write_text(''.join(f'{share}\n' for share in shares(minutes.pop('', {}))))
     dearest = sorted(minutes, key=lambda crate: -sum(minutes[crate].values()))
     crates.write_text(
         ''.join(f'{crate}: {", ".join(shares(minutes[crate]))}\n' for crate in dearest)

@@ -44,9 +44,9 @@ BLOCK = re.compile(r'^(?:pub )?(impl|trait)\b(?:<.*?>)? *(?:.* for )?(\w+)')
 def public_names(root):
     """What a root file makes public: names of items, and modules all of whose functions are."""
     names, modules = set(), set(re.findall(r'^pub mod (\w+);', root, re.M))
-    for held in re.findall(r'^pub use [\w:]+::(?:{([^}]*)}|(\w+));', root, re.M):
+    for exported in re.findall(r'^pub use [\w:]+::(?:{([^}]*)}|(\w+));', root, re.M):
         names |= {
-            name.strip().split(' as ')[0] for name in ''.join(held).split(',') if name.strip()
+            name.strip().split(' as ')[0] for name in ''.join(exported).split(',') if name.strip()
         }
     return names, modules
 

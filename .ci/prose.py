@@ -57,10 +57,10 @@ def text_of(name):
 
 def blocks(text):
     """Gives (line number, info, lines) for each code block, and the text with those lines blank."""
-    found, kept, inside = [], [], None
+    found, outside, inside = [], [], None
     for number, line in enumerate(text.split('\n'), 1):
         is_fence = line.lstrip().startswith('```')
-        kept.append('' if is_fence or inside is not None else line)
+        outside.append('' if is_fence or inside is not None else line)
         if is_fence and inside is None:
             inside = (number, line.strip()[3:].strip(), [])
             found.append(inside)
@@ -68,7 +68,7 @@ def blocks(text):
             inside = None
         elif inside is not None:
             inside[2].append(line)
-    return found, kept
+    return found, outside
 
 
 def units(lines):
@@ -107,8 +107,8 @@ def exists(path, folder):
     if re.search(r'[*{}<>$]|\b[A-Z]{2,}\b(?!\.md)|/out\b', path) and not path.endswith('.md'):
         return True
     crate, edit = os.path.split(path)
-    places = [path, os.path.join('crates', crate, 'must-fail', edit + '.edit')]
-    return any((base / place).exists() for base in (ROOT, folder) for place in places)
+    paths = [path, os.path.join('crates', crate, 'must-fail', edit + '.edit')]
+    return any((base / name).exists() for base in (ROOT, folder) for name in paths)
 
 
 # Each check gives (line, fault) for the lines of a document, in which code is blank.

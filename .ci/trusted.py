@@ -16,7 +16,7 @@ START = '<!-- .ci/trusted.py makes this part -->\n'
 SHIPPED = {
     'nonobench': 'the program',
     'web': 'the library, which is also compiled to the module',
-    'check_host': 'the checker alone, library and module',
+    'check_host': 'the checker by itself, library and module',
 }
 # What says how large a crate is, or how its check was run: a check by hand keeps what earlier ones
 # found, and CI does not. The other words say what a proof rests on.
@@ -44,9 +44,9 @@ def reached(lines):
     """The functions in C that a check reached, by the crate that declares them."""
     found = {}
     for line in lines:
-        told = re.match(r'  ([\w:]+)\s+reached$', line)
-        if told:
-            crate, _, name = told[1].partition('::')
+        reached_line = re.match(r'  ([\w:]+)\s+reached$', line)
+        if reached_line:
+            crate, _, name = reached_line[1].partition('::')
             found.setdefault(crate, []).append(f'`{name.split("::")[-1]}`')
     for crate, names, more in re.findall(
         r'^axioms (\w+): ([\w:, ]*?)(, \.\.\. )?\((?:\d+) of the', '\n'.join(lines), re.M
@@ -68,11 +68,11 @@ def item(crate, lines):
     )
 
 
-def faults(found, kept):
+def faults(found, listed):
     """The crates whose last line in a log of CI has a word that their item does not have. An item
-    that is missing is told, no more."""
+    that is missing is only printed."""
     for crate in SHIPPED:
-        line = next((line for line in kept.splitlines() if line.startswith(f'- `{crate}`')), None)
+        line = next((line for line in listed.splitlines() if line.startswith(f'- `{crate}`')), None)
         words = last_words(found.get(crate, []))
         if words and line is None:
             print(f'docs/TRUST.md has no item of {crate} yet: .ci/trusted.py LOG --write makes it')
@@ -86,9 +86,9 @@ def faults(found, kept):
 def main(words):
     found = sections(Path(words[0]).read_text(encoding='utf-8'))
     before, rest = PAGE.read_text(encoding='utf-8').split(START)
-    kept = re.match(r'(?:- .*\n)*', rest)[0]
+    listed = re.match(r'(?:- .*\n)*', rest)[0]
     if '--write' in words:
-        items = {re.match(r'- `(\w+)`', line)[1]: line for line in kept.splitlines(keepends=True)}
+        items = {re.match(r'- `(\w+)`', line)[1]: line for line in listed.splitlines(keepends=True)}
         items.update(
             {
                 crate: item(crate, found[crate])
@@ -97,12 +97,12 @@ def main(words):
             }
         )
         made = ''.join(items[crate] for crate in SHIPPED if crate in items)
-        PAGE.write_text(before + START + made + rest[len(kept) :], encoding='utf-8')
+        PAGE.write_text(before + START + made + rest[len(listed) :], encoding='utf-8')
         return 0
-    told = list(faults(found, kept))
-    for fault in told:
+    wrong = list(faults(found, listed))
+    for fault in wrong:
         print(fault)
-    return 1 if told else 0
+    return 1 if wrong else 0
 
 
 if __name__ == '__main__':

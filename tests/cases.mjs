@@ -65,8 +65,8 @@ const placesOf = (word) =>
 export function mustCheckPublished(check) {
   const cases = casesOf('published');
   for (const [asked, answer] of cases) {
-    const [cells, published, ...lines] = asked.split(' '), [given, ...told] = answer.split(' ');
-    const [accepted, text] = answerOf(told.join(' '));
+    const [cells, published, ...lines] = asked.split(' '), [given, ...rest] = answer.split(' ');
+    const [accepted, text] = answerOf(rest.join(' '));
     const said =
         check(pictureOf(cells), bytesOf(lines.join(' ')), published === 'any' ? {anyGiven: true} : {
           published: placesOf(published)

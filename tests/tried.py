@@ -59,8 +59,8 @@ class Release:
     def unpack(self):
         with tarfile.open(archive()) as packed:
             packed.extractall(self.folder)
-        for place in (self.folder / archive().name[: -len('.tar.gz')]).iterdir():
-            place.rename(self.folder / place.name)
+        for path in (self.folder / archive().name[: -len('.tar.gz')]).iterdir():
+            path.rename(self.folder / path.name)
         with tarfile.open(next(ROOT.glob('dist/nonobench-*.tgz'))) as packed:
             packed.extractall(self.folder)
 
@@ -102,14 +102,14 @@ def changed_crates():
 def engine_now():
     """The files of the engine with what git calls their contents."""
     return {
-        place.relative_to(ROOT).as_posix(): _git_id(place)
-        for place in ROOT.glob('crates/*/src/**/*.rt')
+        path.relative_to(ROOT).as_posix(): _git_id(path)
+        for path in ROOT.glob('crates/*/src/**/*.rt')
     }
 
 
-def _git_id(place):
+def _git_id(path):
     """What git calls the content of a file."""
-    content = place.read_bytes()
+    content = path.read_bytes()
     return hashlib.sha1(b'blob %d\0' % len(content) + content).hexdigest()
 
 
@@ -137,27 +137,27 @@ def _sources_of_release():
     }
 
 
-def once(place, make):
+def once(path, make):
     """A folder that `make` fills: the first process that asks for it makes it, and the others
     wait."""
-    failed = Path(f'{place}.failed')
-    with open(f'{place}.lock', 'w') as lock:
+    failed = Path(f'{path}.failed')
+    with open(f'{path}.lock', 'w') as lock:
         fcntl.flock(lock, fcntl.LOCK_EX)
-        if not place.exists() and not failed.exists():
-            new = Path(f'{place}.new')
+        if not path.exists() and not failed.exists():
+            new = Path(f'{path}.new')
             new.mkdir()
             why = make(new)
             if why:
                 failed.write_text(why)
             else:
-                new.rename(place)
+                new.rename(path)
     if failed.exists() and 'skipped: ' in failed.read_text():
         pytest.skip(
             failed.read_text().strip().splitlines()[-1]
         )  # a tool is missing, and the build has said which
     if failed.exists():
-        pytest.fail(f'{place.name} was not made: {failed.read_text()}')
-    return place
+        pytest.fail(f'{path.name} was not made: {failed.read_text()}')
+    return path
 
 
 def needs(*tools):
@@ -167,11 +167,11 @@ def needs(*tools):
             pytest.skip(f'there is no {tool}')
 
 
-def needs_file(place, made_by):
+def needs_file(path, made_by):
     """Skips a test where something was not made."""
-    if not place.exists():
-        pytest.skip(f'there is no {place.relative_to(ROOT)}, which {made_by} makes')
-    return place
+    if not path.exists():
+        pytest.skip(f'there is no {path.relative_to(ROOT)}, which {made_by} makes')
+    return path
 
 
 def named(made, pattern):
@@ -267,7 +267,7 @@ def _clean_folder():
 def clean_env(before=None, **more):
     """What somebody has who has nothing but the package; `before` is a folder of further tools."""
     folder, _ = _clean_folder()
-    path = ':'.join(str(place) for place in (before, folder, '/usr/bin', '/bin') if place)
+    path = ':'.join(str(part) for part in (before, folder, '/usr/bin', '/bin') if part)
     plain = {
         'PATH': path,
         'HOME': folder / 'home',

@@ -12,7 +12,6 @@ import {Trial, hookedPage} from '../page/page_trial.mjs';
 
 const ROOT = fileURLToPath(new URL('../..', import.meta.url));
 const DOCS = join(ROOT, 'docs');
-const MOST_MS = 60000;    // for a search
 const SETTLED_MS = 2000;  // until a dialog has its verdict
 const TAKEN_MS = 300;     // a press just after a proposal came is refused
 
@@ -48,7 +47,7 @@ function run(program, words) {
 
 async function opened(trial, name) {
   await trial.example(name);
-  await trial.judged(MOST_MS);
+  await trial.judged();
 }
 
 /** Moves the mouse to the middle of an element, and shows its pointer there. */
@@ -83,9 +82,7 @@ async function demo({trial, page, folder}) {
   await point(page, '[data-action="fix"]');
   await frame(2.5);
   await page.click('[data-action="fix"]');
-  await page.until(
-      () => !searches.running && document.querySelector('#fix-list button') !== null, MOST_MS
-  );
+  await page.until(() => !searches.running && document.querySelector('#fix-list button') !== null);
   await pause(TAKEN_MS);
   await frame(2);
   await point(page, '#fix-list button');
@@ -94,8 +91,7 @@ async function demo({trial, page, folder}) {
   await page.click('#fix-list button');
   await page.until(
       () => bench.state.verdict.word === 'unique' &&
-          document.getElementById('grade').textContent !== '–',
-      MOST_MS
+          document.getElementById('grade').textContent !== '–'
   );
   await pause(SETTLED_MS);
   await frame(3.5);
@@ -122,7 +118,7 @@ async function imported({page}) {
   await page.run((bytes) => {
     takeFile(new File([new Uint8Array(bytes)], 'duck.png'));
   }, duck);
-  await page.until(() => document.querySelector('dialog[open] canvas') !== null, MOST_MS);
+  await page.until(() => document.querySelector('dialog[open] canvas') !== null);
   await pause(SETTLED_MS);
   const part = await page.run(() => {
     const {x, y, width, height} = document.querySelector('dialog[open]').getBoundingClientRect();
@@ -150,7 +146,7 @@ async function play({trial, page}) {
 // The report with a whole first row of cards.
 async function audit({page}) {
   await page.goto(pathToFileURL(join(DOCS, 'audit.html')).href);
-  await page.until(() => document.querySelector('#list > *') !== null, MOST_MS);
+  await page.until(() => document.querySelector('#list > *') !== null);
   const height = await page.run(
       () => document.querySelector('#list > :first-child').getBoundingClientRect().bottom
   );

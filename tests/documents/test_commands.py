@@ -1,6 +1,6 @@
 """Runs the commands of README.md, of docs/RECIPES.md and of the READMEs of the packages, each
-page's in one folder, and compares what they print with what the page shows. (The other documents
-have none, as .ci/prose.py sees.)
+page's in one folder, and compares what they print with what the page shows. TUTORIAL and
+FILE-FORMATS have none.
 
 README's folder has a copy of what its commands name. So its commands of installing are run, and
 install the release below a home of their own. As on a new account, nothing of that is on the PATH.
@@ -55,8 +55,8 @@ def run_blocks(blocks, folder, env, without=None):
         printed = re.sub(without, '', printed) if without else printed
         if wanted is not None and printed != wanted:
             lines = wanted.splitlines(True), printed.splitlines(True)
-            told = difflib.unified_diff(*lines, 'the page', 'printed')
-            pytest.fail(commands + ''.join(told), pytrace=False)
+            differences = difflib.unified_diff(*lines, 'the page', 'printed')
+            pytest.fail(commands + ''.join(differences), pytrace=False)
 
 
 def test_commands_of_readme(tmp_path):
@@ -73,19 +73,36 @@ def test_commands_of_readme(tmp_path):
     run_blocks(blocks, here, env)
 
 
-def test_python_of_readme(tmp_path):
-    """README's block in Python is not refused, with the wheel that README installs."""
-    [wheel] = re.findall(r'pip install (dist/\S+\.whl)', README.read_text())
-    with zipfile.ZipFile(ROOT / wheel) as packed:
+@pytest.fixture
+def wheel(tmp_path):
+    """The environment in which Python has the wheel that README installs."""
+    [name] = re.findall(r'pip install (dist/\S+\.whl)', README.read_text())
+    with zipfile.ZipFile(ROOT / name) as packed:
         packed.extractall(tmp_path)
-    blocks = blocks_of(README, 'python')
-    assert blocks
     without = {name: value for name, value in os.environ.items() if name != 'NONOBENCH_LIBRARY'}
-    for block, _ in blocks:
-        run = ended(
-            [sys.executable, '-c', block], cwd=ROOT, env={**without, 'PYTHONPATH': str(tmp_path)}
-        )
-        assert run.status == 0, run
+    return {**without, 'PYTHONPATH': str(tmp_path)}
+
+
+def test_python_of_readme(wheel):
+    """README's picture is ambiguous, as it says, and the block is not refused."""
+    [(block, _)] = blocks_of(README, 'python')
+    run = ended([sys.executable, '-c', block], cwd=ROOT, env=wheel)
+    assert (run.status, run.said) == (0, b'')
+    assert run.wrote.startswith(b'Ruling.AMBIGUOUS ')
+
+
+def test_audit_of_readme(wheel):
+    """README's audit prints a line for each example, and ends with status 1."""
+    [words] = re.findall(r'(?m)^env/bin/nonobench-audit (.*)$', README.read_text())
+    names = sorted(file.relative_to(ROOT).as_posix() for file in ROOT.glob(words))
+    run = ended([sys.executable, '-m', 'nonobench.audit', *names], cwd=ROOT, env=wheel)
+    assert run.status == 1
+    assert re.findall(r'(?m)^.* (examples/[^\s;]+)', run.wrote.decode()) == names
+
+
+def test_pages_without_commands():
+    for name in ('TUTORIAL.md', 'FILE-FORMATS.md'):
+        assert '```' not in (ROOT / 'docs' / name).read_text()
 
 
 def for_sites(page):
@@ -95,7 +112,8 @@ def for_sites(page):
     return blocks
 
 
-def test_commands_for_sites(kept, library, tmp_path):
+@pytest.mark.since('0.8.0')
+def test_commands_for_sites(build, library, tmp_path):
     """What a reader has installed is made of the checkout."""
     pytest.importorskip('PIL', reason='there is no Pillow')
     needs('cc')
@@ -110,7 +128,7 @@ def test_commands_for_sites(kept, library, tmp_path):
         command = installed / 'bin' / name
         command.write_text(f'#!/bin/sh\nexec {sys.executable}{words} "$@"\n')
         command.chmod(0o755)
-    shutil.copy(kept.program('nonobench'), installed / 'bin')
+    shutil.copy(build.program('nonobench'), installed / 'bin')
     shutil.copy(ROOT / 'c' / 'nonobench.h', installed / 'include')
     shutil.copy(library.with_suffix('.a'), installed / 'lib')
     here = tmp_path / 'recipes'
@@ -153,6 +171,7 @@ def test_commands_of_the_examples(nonobench, tmp_path):
         run_blocks([(command, (ROOT / f'{session}.out').read_text())], ROOT, env)
 
 
+@pytest.mark.since('0.8.0')
 def test_python_of_its_readme(library, tmp_path):
     """Its blocks in Python, over the picture and the certificate of an example."""
     pytest.importorskip('PIL', reason='there is no Pillow')

@@ -33,7 +33,7 @@ def test_types():
 def test_quoted_function():
     """The function that CONTRIBUTING.md shows is written so in its file."""
     [quoted] = re.findall(r'(?ms)^```\n( +fn .*?)^```$', (ROOT / 'CONTRIBUTING.md').read_text())
-    assert quoted in (ROOT / 'crates' / 'worklist' / 'src' / 'in_order.rt').read_text()
+    assert quoted in (ROOT / 'crates' / 'fixpoint' / 'src' / 'in_order.rt').read_text()
 
 
 def test_tables_of_the_comparison():

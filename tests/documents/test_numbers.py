@@ -412,7 +412,7 @@ def test_sentences_of_the_comparison():
             f' {seconds["nonobench", first]:.2f} and {seconds["nonobench", second]:.2f}'
         ),
         f'more than {int(median(ratios) // 10) * 10} times as long',
-        f'and {["no", "one", "two", "three"][sum(ratio < 1 for ratio in ratios)]} are shorter',
+        f'and {["none is", "one is", "two are"][sum(ratio < 1 for ratio in ratios)]} shorter',
     ]
     text = ' '.join((ROOT / 'docs' / 'COMPARISON.md').read_text().split())
     assert [sentence for sentence in sentences if sentence not in text] == []

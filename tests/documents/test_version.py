@@ -1,4 +1,4 @@
-"""The version: that of the sources in each place that names it, and that of the newest release in
+"""The version: that of the sources in each file that names it, and that of the newest release in
 those that are about a release."""
 
 import hashlib
@@ -19,9 +19,9 @@ PLACES = {
 }
 
 
-def named(place, pattern):
-    """The first version that a place names."""
-    return re.search(pattern, (ROOT / place).read_text(), re.MULTILINE)[1]
+def named(file, pattern):
+    """The first version that a file names."""
+    return re.search(pattern, (ROOT / file).read_text(), re.MULTILINE)[1]
 
 
 def newest_release():
@@ -29,18 +29,38 @@ def newest_release():
     return named('CHANGELOG.md', r'^## ([^ ,]*), [0-9]')
 
 
-@pytest.mark.parametrize('place', PLACES)
-def test_version(place):
-    assert named(place, PLACES[place]) == version_of_tree()
+@pytest.mark.parametrize('file', PLACES)
+def test_version(file):
+    assert named(file, PLACES[file]) == version_of_tree()
 
 
 @pytest.mark.toolchain
 @pytest.mark.parametrize('kind', BUILT, ids=('llvm', 'rattle'))
-def test_version_of_a_program(kept, kind):
+def test_version_of_a_program(build, kind):
     assert (
-        ended([kept.program(f'nonobench{kind}'), '--version']).wrote.decode()
+        ended([build.program(f'nonobench{kind}'), '--version']).wrote.decode()
         == f'nonobench {version_of_tree()}\n'
     )
+
+
+def test_version_of_the_report():
+    """The report that the documents show was made by this version."""
+    assert named('docs/audit.html', r'content="nonobench (.*)">') == version_of_tree()
+
+
+@pytest.mark.parametrize(
+    'picture', sorted(one.name for one in (ROOT / 'docs').glob('*.[pg][ni][gf]'))
+)
+def test_version_of_a_picture(picture):
+    """The commit that last changed a picture of the documents is of this version."""
+    needs('git')
+    log = ended(['git', '-C', ROOT, 'log', '-1', '--format=%H', '--', f'docs/{picture}'])
+    commit = log.wrote.decode().strip()
+    if log.status or not commit:
+        pytest.skip('this is no checkout of git')
+    source = 'crates/program_options/src/version.rt'
+    then = ended(['git', '-C', ROOT, 'show', f'{commit}:{source}']).wrote.decode()
+    assert f'"{version_of_tree()}"' in then
 
 
 def test_digest_of_the_release():

@@ -93,6 +93,7 @@ int main(int count, char **words) {
   if (found.later != UINT64_MAX || found.it.size != sizeof found.it) return 3;
 #endif
   const nonobench_assessment *it = &found.it;
+  if (!strstr(said, it->is_fit ? "\nfit\ncolour . " : "\nunfit\ncolour . ")) return 5;
   printf(
       "%s\nsize %" PRIu32 " %" PRIu32 "\ncolours %" PRIu32 "\ngivens %" PRIu32 "\nopen %" PRIu32
       "\n",

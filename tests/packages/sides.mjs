@@ -53,7 +53,7 @@ function answerOf(engine, {call, file, lines, certificate, givens, options}) {
   const answered = (out) => ({out, said: '', status: 0});
   const refused = (text, status) => ({out: '', said: `nonobench: ${text}\n`, status});
   try {
-    if (call === 'clues') return answered(engine.clues(file, options));
+    if (call === 'clues') return answered(engine.clues(file, options).text);
     if (call === 'check') {
       const asked = {...options, published: givens, anyGiven: givens === undefined};
       const {accepted, text, status} = engine.check(file, certificate, asked);

@@ -19,12 +19,12 @@ WHOLE = 'proves all crates, since low has no library: most of an hour'
 WEB = 'proves the crate web over what rt ci left: some minutes'
 
 
-def touch(place, hours=0):
+def touch(path, hours=0):
     """Makes a file so many hours old."""
-    place.parent.mkdir(parents=True, exist_ok=True)
-    place.touch()
+    path.parent.mkdir(parents=True, exist_ok=True)
+    path.touch()
     when = time.time() - 3600 * hours
-    os.utime(place, (when, when))
+    os.utime(path, (when, when))
 
 
 class Checkout:
@@ -40,12 +40,12 @@ class Checkout:
         for crate in ('low', 'web'):
             touch(self.top / 'crates' / crate / 'src' / 'lib.rt', 2)
         (folder / 'kit' / 'rlibs').mkdir(parents=True)
-        for name, place in (('rt', folder / 'bin'), ('rattle', folder / 'kit' / 'bin')):
-            place.mkdir()
-            (place / name).write_text(
+        for name, path in (('rt', folder / 'bin'), ('rattle', folder / 'kit' / 'bin')):
+            path.mkdir()
+            (path / name).write_text(
                 TOOLCHAIN.format(kit=folder / 'kit', name=name, status=self.status)
             )
-            (place / name).chmod(0o755)
+            (path / name).chmod(0o755)
 
     def left(self):
         touch(self.top / 'crates' / 'low' / 'out' / 'rlib' / 'low.rlib' / 'format', 1)

@@ -176,6 +176,7 @@ CALLS = {
 }
 
 
+@pytest.mark.since('0.8.0')
 @pytest.mark.compiler
 def test_example(archive, tmp_path):
     """It runs in a folder that has things by the names of libraries."""

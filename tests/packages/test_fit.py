@@ -56,33 +56,40 @@ class Case:
         return b''.join(b'given %d %d\n' % place for place in self.givens)
 
     def lay(self, folder):
-        """The files of the puzzle, as an audit finds them."""
+        """The files of the puzzle, as an audit finds them: their paths, by what they are."""
+        from nonobench.collection.finding import ENDINGS
+
         parts = {
-            '': self.picture,
-            '.background': (self.background or '').encode(),
-            '.givens': self.file,
-            '.cert': self.certificate,
+            'picture': self.picture,
+            'background': (self.background or '').encode(),
+            'givens': self.file,
+            'certificate': self.certificate,
         }
-        for ending, data in parts.items():
-            if data:
-                (folder / f'{self.name}.ppm{ending}').write_bytes(data)
+        paths = {
+            what: folder / f'{self.name}.ppm{ending}'
+            for ending, what in {'': 'picture', **ENDINGS}.items()
+            if parts[what]
+        }
+        for what, path in paths.items():
+            path.write_bytes(parts[what])
+        return paths
 
 
 def case_of(block):
-    told = dict(line.split(' ', 1) for line in block.splitlines() if not line.startswith('#'))
-    if not told:
+    fields = dict(line.split(' ', 1) for line in block.splitlines() if not line.startswith('#'))
+    if not fields:
         return None
-    triples = dict(zip('.abcdefghijklmno', told['colours'].split(' ')))
-    rows = told['rows'].split('/')
+    triples = dict(zip('.abcdefghijklmno', fields['colours'].split(' ')))
+    rows = fields['rows'].split('/')
     cells = ''.join(triples[letter].replace(',', ' ') + '\n' for row in rows for letter in row)
-    certificate = told.get('certificate')
+    certificate = fields.get('certificate')
     return Case(
-        told['case'],
-        f'P3\n{len(rows[0])} {len(rows)}\n{told.get("maxval", "255")}\n{cells}'.encode(),
-        told.get('background'),
-        tuple(tuple(map(int, word.split(','))) for word in told.get('givens', '').split()),
+        fields['case'],
+        f'P3\n{len(rows[0])} {len(rows)}\n{fields.get("maxval", "255")}\n{cells}'.encode(),
+        fields.get('background'),
+        tuple(tuple(map(int, word.split(','))) for word in fields.get('givens', '').split()),
         certificate and ''.join(f'{line}\n' for line in certificate.split('; ')).encode(),
-        tuple(told['answer'].split('; ')),
+        tuple(fields['answer'].split('; ')),
     )
 
 
@@ -127,6 +134,7 @@ def lines_of(said):
     yield 'fit' if said.is_fit else 'unfit'
 
 
+@pytest.mark.since('0.8.0')
 @pytest.mark.parametrize('host', ['library', 'Worker'])
 def test_python(library, host):
     import nonobench
@@ -141,7 +149,7 @@ def test_python(library, host):
 @pytest.mark.since('0.8.0')
 def test_any_given(library):
     """A certificate's givens are those that are published, whichever they are; and an error of the
-    certificate is told as its own."""
+    certificate is reported as its own."""
     import nonobench
 
     for case in BY_CERTIFICATE:
@@ -163,6 +171,7 @@ def test_any_given(library):
     assert caught.value.givens == ((1, 1),)
 
 
+@pytest.mark.since('0.8.0')
 def test_an_allowance(library):
     """Under one a puzzle may be undecided, and is not fit then; whether a given is needed is known
     under any."""
@@ -218,10 +227,10 @@ def graded(words):
     assert not certificate or [*dict.fromkeys(rows.replace('/', '').replace('.', ''))] == sorted(
         {*rows} - {'/', '.'}
     ), rows
-    held = certificate and certificate.replace('\\n', '\n').encode()
+    encoded = certificate and certificate.replace('\\n', '\n').encode()
     said = nonobench.assess(
         picture,
-        held,
+        encoded,
         published=[tuple(map(int, word.split(','))) for word in (given or '').split()],
     )
     if said.grade is None:
@@ -267,10 +276,12 @@ def test_colours_alike(library):
             ), line
 
 
+@pytest.mark.since('0.8.0')
 @pytest.mark.compiler
-@pytest.mark.parametrize('words', [(), ('-DBIG',)], ids=('as it is', 'grown'))
+@pytest.mark.parametrize('words', [(), ('-DBIG',)], ids=('as it is', 'with more fields'))
 def test_c(library, words, tmp_path):
-    """Also where the caller's struct has grown beyond that of the library."""
+    """The fields of an assessment by C are those of the table, without the other picture; also if
+    the caller's struct has more fields than the library knows."""
     needs('cc')
     archive = needs_file(library.with_suffix('.a'), 'c/build')
     program = tmp_path / 'assess'
@@ -291,14 +302,12 @@ def test_c(library, words, tmp_path):
         ]
     )
     for case in TABLE:
-        case.lay(tmp_path)
-        file = tmp_path / case.name
-        cert = '-' if case.certificate is None else file.with_suffix('.ppm.cert')
+        paths = case.lay(tmp_path)
         run = ended(
             [
                 program,
-                file.with_suffix('.ppm'),
-                cert,
+                paths['picture'],
+                paths.get('certificate', '-'),
                 case.background or '-',
                 *(f'{row},{column}' for row, column in case.givens),
             ]
@@ -311,18 +320,18 @@ def test_c(library, words, tmp_path):
         assert run.wrote.decode().splitlines() == wanted, (case.name, run)
 
 
-def test_program(kept, tmp_path):
+@pytest.mark.since('0.8.0')
+def test_program(build, tmp_path):
     """The command `assess`, over the files of each puzzle."""
     for case in TABLE:
-        case.lay(tmp_path)
-        file = tmp_path / case.name
-        beside = {
+        paths = case.lay(tmp_path)
+        options = {
             '--background': case.background,
-            '--givens': case.givens and file.with_suffix('.ppm.givens'),
-            '--certificate': case.certificate and file.with_suffix('.ppm.cert'),
+            '--givens': paths.get('givens'),
+            '--certificate': paths.get('certificate'),
         }
-        words = [word for option, value in beside.items() if value for word in (option, value)]
-        run = ended([kept.program('nonobench'), 'assess', file.with_suffix('.ppm'), *words])
+        words = [word for option, value in options.items() if value for word in (option, value)]
+        run = ended([build.program('nonobench'), 'assess', paths['picture'], *words])
         assert (run.status, run.wrote.decode(), run.said) == (
             0 if case.is_fit else 1,
             case.answer,
@@ -366,6 +375,7 @@ def row_lines(row):
     yield 'fit' if row['fit'] else 'unfit'
 
 
+@pytest.mark.since('0.8.0')
 def test_audit(library, tmp_path):
     """A certificate that is refused is told beside the verdict of a search."""
     site = tmp_path / 'site'
@@ -393,6 +403,7 @@ def test_audit(library, tmp_path):
     assert rows == {}
 
 
+@pytest.mark.since('0.8.0')
 @pytest.mark.parametrize('kind', ['blank', 'background', 'given', 'alike', 'any'])
 def test_audit_allows(library, kind, tmp_path):
     """With the flaws of one kind, or of any, those puzzles count as fit."""
@@ -410,6 +421,7 @@ def test_audit_allows(library, kind, tmp_path):
     assert [audited(tmp_path, *words)[1] for words in ((), ('--allow-flaw', kind))] == [1, 0]
 
 
+@pytest.mark.since('0.8.0')
 def test_certified(library, tmp_path):
     """Where a certificate counts alone, one that is refused is an error."""
     site = tmp_path / 'site'
@@ -428,6 +440,7 @@ def test_certified(library, tmp_path):
     assert rows == {}
 
 
+@pytest.mark.since('0.8.0')
 def test_service(library):
     """It searches where there is no certificate."""
     pytest.importorskip('flask', reason='there is no Flask')

@@ -94,9 +94,10 @@ def test_installed_updated_and_removed(archive, home, shell, tmp_path):
     (archive / 'bin/nonobench-old').unlink()
     said = f'nonobench 9.9.9 is in {lib}, and its commands are in {local}/bin\n'
     assert run([*words, archive / 'install'], home, path) == (0, said, '')
-    assert files(lib) == files(archive)
+    installed = sorted([*files(archive), '.installed'])
+    assert files(lib) == installed
     assert files(local) == sorted(
-        ['bin/mine', *LINKS, *(f'lib/nonobench/{name}' for name in files(archive))]
+        ['bin/mine', *LINKS, *(f'lib/nonobench/{name}' for name in installed)]
     )
     assert run([local / 'bin/nonobench'], home) == (0, 'nonobench 9.9.9\n', '')
     for one in lib.rglob('*'):  # others may use it, whatever the mask of who unpacked
@@ -117,19 +118,30 @@ def test_another_folder_from_where_we_stand(archive, home, tmp_path):
     assert files(tmp_path / 'here') == [] and files(home) == ['.local/bin/mine']
 
 
-def test_refused(archive, home):
-    """What an older version installed stays, and so does what is there if the program does not
-    run."""
-    write(home / '.local/lib/nonobench/nonobench/__init__.py', '')
+@pytest.mark.parametrize(
+    'path', ['nonobench/nonobench/__init__.py', 'nonobench/install', 'nonobench.new/install']
+)
+def test_what_it_did_not_make_stays(archive, home, path):
+    """An older version's folder, and a checkout."""
+    write(home / '.local/lib' / path, '')
     there = files(home)
     for words in ([], ['--uninstall']):
         status, out, err = run([archive / 'install', *words], home)
         assert (status, out) == (1, '') and '/share/nonobench/install --uninstall' in err
-    shutil.rmtree(home / '.local/lib/nonobench')
+        assert files(home) == there
+
+
+def test_an_interrupted_run(archive, home):
+    write(home / '.local/lib/nonobench.new/.installed', '')
+    assert run([archive / 'install'], home)[0] == 0
+    assert os.listdir(home / '.local/lib') == ['nonobench']
+
+
+def test_a_program_that_does_not_run(archive, home):
     write(archive / 'bin/nonobench', '#!/nowhere\n', 0o755)
     status, out, err = run([archive / 'install'], home)
     assert (status, out) == (1, '') and 'the program does not run here' in err
-    assert there != files(home) == ['.local/bin/mine']
+    assert files(home) == ['.local/bin/mine']
 
 
 def test_words(archive, home):
@@ -204,4 +216,4 @@ def test_what_a_toolchain_proves_in_a_checkout(checkout, home, tmp_path):
     write(tmp_path / 'program', PROGRAM, 0o755)
     assert run(words, home, f'{tmp_path}/toolchain:/usr/bin:/bin')[0] == 0
     assert os.access(home / '.local/bin/nonobench', os.X_OK)
-    assert files(home / '.local/lib/nonobench') == sorted([*LINKS, 'install'])
+    assert files(home / '.local/lib/nonobench') == sorted([*LINKS, '.installed', 'install'])

@@ -143,9 +143,9 @@ def test_rates_beside_those_of_the_library(module, library, tmp_path, monkeypatc
 
 @pytest.mark.since('0.8.0')
 @pytest.mark.all
-def test_beside_the_program(kept, module):
+def test_beside_the_program(build, module):
     needs('node')
     passes(
         ['node', ROOT / 'tests' / 'packages' / 'compare.mjs', '1000'],
-        env={'NONOBENCH': str(kept.program('nonobench')), 'WASM': str(module)},
+        env={'NONOBENCH': str(build.program('nonobench')), 'WASM': str(module)},
     )

@@ -49,7 +49,7 @@ def version(made):
 
 
 @pytest.fixture(scope='session')
-def pairs(kept, tmp_path_factory):
+def pairs(build, tmp_path_factory):
     """Pictures with certificates: a good one, that of another picture, and one whose givens are all
     cells; and why the second is refused."""
     folder = tmp_path_factory.mktemp('pairs')
@@ -60,7 +60,7 @@ def pairs(kept, tmp_path_factory):
     (folder / 'all.cert').write_text(
         'nonocert 2\ngiven 1 1\ngiven 1 2\ngiven 2 1\ngiven 2 2\ndone\n'
     )
-    run = ended([kept.program('nonobench'), 'check', folder / 'bad.ppm', folder / 'bad.cert'])
+    run = ended([build.program('nonobench'), 'check', folder / 'bad.ppm', folder / 'bad.cert'])
     assert run.status == 1
     return {
         name: [folder / f'{name}.ppm', folder / f'{name}.cert'] for name in ('good', 'bad', 'all')
@@ -111,12 +111,12 @@ def blocks_of(page):
     return re.findall(r'(?ms)^ *```.*?^ *```$', page.read_text())
 
 
-def try_scripts(place):
+def try_scripts(folder):
     """Tries the audit on an example that was installed, looks for its man page, and compares the
     recipes with those of this tree."""
-    assert list((place / 'share' / 'man' / 'man1').glob('nonobench-audit.1*'))
-    shown = place / 'share' / 'doc' / 'nonobench'
-    run = clean([place / 'bin' / 'nonobench-audit', shown / 'examples' / 'heart.ppm'])
+    assert list((folder / 'share' / 'man' / 'man1').glob('nonobench-audit.1*'))
+    shown = folder / 'share' / 'doc' / 'nonobench'
+    run = clean([folder / 'bin' / 'nonobench-audit', shown / 'examples' / 'heart.ppm'])
     assert run.status == 0, run
     assert blocks_of(shown / 'docs' / 'RECIPES.md') == blocks_of(ROOT / 'docs' / 'RECIPES.md')
 
@@ -138,12 +138,12 @@ def test_sums(made):
     passes(['sha256sum', '--quiet', '--strict', '-c', 'SHA256SUMS'], cwd=made)
 
 
-def test_sources(made, kept):
+def test_sources(made, build):
     """The engine's files with what git calls their contents; of an older release those that it was
     made of."""
     listed = dict(reversed(line.split()) for line in (made / 'SOURCES').read_text().splitlines())
     assert VERSION in listed
-    if not kept.released:
+    if not build.released:
         assert listed == engine_now()
 
 
@@ -177,11 +177,11 @@ def test_bytes_of_other_tools_are_not_compared(made, tmp_path):
     )
 
 
-def test_dist_is_what_was_made(made, kept):
+def test_dist_is_what_was_made(made, build):
     newest = re.search(r'(?m)^## (.*)$', (ROOT / 'CHANGELOG.md').read_text())[1]
     if 'not released yet' in newest:
         passes(['sha256sum', '--quiet', '--strict', '-c', 'SHA256SUMS'], cwd=ROOT / 'dist')
-    elif kept.released:
+    elif build.released:
         pytest.skip('it wants the toolchain, or what rt ci leaves')
     else:
         said = passes([ROOT / 'packages' / 'compare', made, ROOT / 'dist'])
@@ -314,10 +314,10 @@ def test_npm_worker_in_a_browser(npm, tmp_path):
         server.shutdown()
 
 
-def test_npm_in_node(request, kept, npm):
+def test_npm_in_node(request, build, npm):
     env = {
         'PACKAGE': str(npm / 'node_modules' / 'nonobench'),
-        'NONOBENCH': str(kept.program('nonobench')),
+        'NONOBENCH': str(build.program('nonobench')),
     }
     node_tests(request, ROOT / 'packages' / 'npm' / 'test.mjs', env)
 

@@ -24,11 +24,11 @@ def proved(program, picture, givens, form):
 @pytest.mark.since('0.8.0')
 @pytest.mark.parametrize('picture', PICTURES, ids=lambda picture: picture.stem)
 @pytest.mark.parametrize('form', [1, 2])
-def test_by_the_library(library, kept, picture, form, tmp_path):
+def test_by_the_library(library, build, picture, form, tmp_path):
     import nonobench
 
     (tmp_path / 'givens').write_text('given 1 1\n', encoding='ascii')
-    wanted = proved(kept.program('nonobench'), picture, tmp_path / 'givens', form)
+    wanted = proved(build.program('nonobench'), picture, tmp_path / 'givens', form)
     found = nonobench.prove(picture.read_bytes(), published=[(1, 1)], format=form)
     assert found.certificate == wanted
     assert nonobench.check(picture.read_bytes(), wanted, published=[(1, 1)]).givens == ((1, 1),)

@@ -1,18 +1,19 @@
-// Tests of the search for a grade on small pictures: all repaints of one cell,
-// against brute force over what the module says of each. Run: node --test
+// Tests of the search for a grade, and for what is known later, on small pictures: all repaints of
+// one cell, against brute force over what the module says of each. Run: node --test
 // tests/page/aiming_small.mjs
 import assert from 'node:assert/strict';
 import {test} from 'node:test';
 import {engine, hasModule, needsModule} from '../../page/test/worker.mjs';
 import {baseOf} from '../../page/document/cover.js';
-import {fallsOf} from '../../page/engine/serve.js';
+import {fallsOf, pathIn} from '../../page/engine/serve.js';
 import {LINE_WORDS, farFrom} from '../../page/repair/aiming.js';
 import {Board, LETTERS, cellsOf} from '../../page/repair/board.js';
-import {aim} from '../../page/repair/repair.js';
+import {stepHalfKnown} from '../../page/repair/later.js';
+import {aim, delay} from '../../page/repair/repair.js';
 import {waits} from '../waits.mjs';
 
 const module = hasModule ? await engine() : null;
-const skip = needsModule.skip || waits('0.7.0');
+const skip = needsModule.skip || waits('0.8.0');
 const [ROWS, COLUMNS] = [6, 8];
 const BOUNDS = {
   seconds: 60,
@@ -87,6 +88,19 @@ const besides = (index) => [index - COLUMNS,
                             ...((index + 1) % COLUMNS ? [index + 1] : [])]
                                .filter((one) => one >= 0 && one < ROWS * COLUMNS);
 
+// All repaints of one cell that the damage rule allows, and after which something is so.
+function singles(cells, board, isSo) {
+  const found = [];
+  for (let index = 0; index < cells.length; index++) {
+    for (const colour of new Set(besides(index).map((one) => cells[one]))) {
+      const other = painted(cells, [{index, colour}]);
+      if (colour !== cells[index] && !board.makesLone(other, index) && isSo(other))
+        found.push(`${index} ${colour}`);
+    }
+  }
+  return found;
+}
+
 test(
     'figures are no distance from their own word, and farther from one the more they miss it',
     () => {
@@ -129,15 +143,7 @@ test(
         for (const word of LINE_WORDS.filter((one) => one !== own)) {
           const {board, repaints, givens, result} = await aimed(cells, word);
           assert.deepEqual([result.isThere, result.isThrough], [false, true]);
-          const single = [];
-          for (let index = 0; index < cells.length; index++) {
-            for (const colour of new Set(besides(index).map((one) => cells[one]))) {
-              const other = painted(cells, [{index, colour}]);
-              if (colour !== cells[index] && !board.makesLone(other, index) &&
-                  wordOf(other) === word)
-                single.push(`${index} ${colour}`);
-            }
-          }
+          const single = singles(cells, board, (other) => wordOf(other) === word);
           if (single.length) {
             assert.deepEqual(
                 repaints.map(([{index, colour}]) => `${index} ${colour}`).sort(), single.sort()
@@ -228,3 +234,106 @@ test(
       assert.ok(asked.length > 10);
     }
 );
+
+// ---- known later
+
+test('half of some places is known with the step that settles enough of them', () => {
+  const steps = [[0, 1], [], [2], [3, 4]].map((all) => ({falls: all.map((index) => ({index}))}));
+  for (const [places, known, wanted] of [
+           [[0], [], 1],
+           [[2], [], 3],
+           [[0, 3], [], 1],
+           [[2, 3, 4], [], 4],
+           [[3, 5], [], 4],
+           [[5], [], Infinity],
+           [[3, 5, 6], [], Infinity],
+           [[4, 5], [5], 0]])
+    assert.equal(stepHalfKnown(steps, places, new Set(known)), wanted, `${places} ${known}`);
+});
+
+// Where line logic solves a picture, at which share of its looks half of some places is known, in
+// percent; else -1. It is read from the session's text.
+function shareIn(cells, places) {
+  const bench = module.open(textOf(cells), {background: BACKGROUND});
+  const lines = bench.say('path\n').trim().split('\n');
+  bench.close();
+  if (lines.pop() !== 'open 0') return -1;
+  let left = Math.ceil(places.size / 2);
+  for (const [at, line] of lines.entries()) {
+    const [axis, number] = line.split(' ');
+    for (const [, place] of line.split(' given ')[0].matchAll(/ (\d+)=/g)) {
+      const [one, other] = [Number(number) - 1, Number(place) - 1];
+      if (places.has(axis === 'r' ? one * COLUMNS + other : other * COLUMNS + one)) left--;
+    }
+    if (left <= 0) return Math.round(100 * (at + 1) / lines.length);
+  }
+  return -1;
+}
+
+// A clock that goes on by a millisecond for each candidate bounds the search.
+const MOST_CANDIDATES = 300;
+async function delayed(cells, places, more = {}) {
+  const board = new Board({rows: ROWS, columns: COLUMNS, cells, ...more});
+  const [found, begun] = [[], []];
+  let clock = 0;
+  const bounds = {seconds: MOST_CANDIDATES / 1000, now: () => clock++};
+  const say = () => assert.fail('the session is not asked');
+  await delay(
+      {board, places, say, path: pathIn(module, board), ...bounds},
+      {begun: (share) => begun.push(share), found: (one) => found.push(one)}
+  );
+  return {board, found, begun};
+}
+
+test(
+    'what is known later is so by what the module tells, and all repaints of one cell are found',
+    {skip: needsModule.skip},
+    async () => {
+      const next = random(17);
+      const met = {single: 0, more: 0};
+      for (let turn = 0; turn < 12;) {
+        const cells = cellsBy(next);
+        const [top, left] = [next(ROWS - 2), next(COLUMNS - 2)];
+        const places = new Set(
+            [0, 1, 2].flatMap((row) => [0, 1, 2].map((col) => (top + row) * COLUMNS + left + col))
+        );
+        const now = shareIn(cells, places);
+        if (now < 0) continue;
+        turn++;
+        const isLater = (other) => shareIn(other, places) >= now + 2;
+        const {board, found, begun} = await delayed(cells, places);
+        assert.deepEqual(begun, [now]);
+        for (const one of found) {
+          assert.equal(one.share, shareIn(painted(cells, one.cells), places));
+          assert.ok(one.cells.length <= 4 && isLater(painted(cells, one.cells)));
+        }
+        const [ones, others] =
+            [1, 2].map((size) => found.filter((one) => Math.min(2, one.cells.length) === size));
+        assert.deepEqual(
+            ones.map(({cells: [{index, colour}]}) => `${index} ${colour}`).sort(),
+            singles(cells, board, isLater).sort()
+        );
+        const latest = Math.max(now, ...ones.map(({share}) => share));
+        assert.ok(others.every(({share}) => share >= latest + 2), 'more cells are later still');
+        met.single += ones.length;
+        met.more += others.length;
+      }
+      assert.ok(met.single > 0 && met.more > 0, JSON.stringify(met));
+    }
+);
+
+test('what is locked or given stays', {skip: needsModule.skip}, async () => {
+  const next = random(41);
+  let met = 0;
+  for (let turn = 0; turn < 60 && met < 6; turn++) {
+    const cells = cellsBy(next);
+    const places = new Set([...Array(2 * COLUMNS).keys()]);
+    if (shareIn(cells, places) < 0) continue;
+    const givens = [COLUMNS * ROWS - 1];
+    const {found} = await delayed(cells, places, {givens, lockedCells: [...places]});
+    for (const {cells: changed} of found)
+      assert.ok(changed.every(({index}) => !places.has(index) && !givens.includes(index)));
+    met += found.length;
+  }
+  assert.ok(met > 5, `${met}`);
+});

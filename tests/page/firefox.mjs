@@ -12,12 +12,19 @@ import {pathToFileURL} from 'node:url';
 import {pause} from './page_browser.mjs';
 import {waits} from '../waits.mjs';
 import {Firefox, Tab} from './firefox_browser.mjs';
-import {clean} from './page_hands.mjs';
-import {Hands} from './page_inputs.mjs';
+import {clean} from './page_common.mjs';
+import {User} from './page_inputs.mjs';
 import {stillPoint} from './page_lasting.mjs';
 import {smallPoint} from './page_marks.mjs';
 import {aimPoint, firstPoint, mendingPoint} from './page_mending.mjs';
-import {alikePoint, comingPoint, contactsPoint, pickingPoint, spritesPoint, tablePoint} from './page_pictures.mjs';
+import {
+  alikePoint,
+  comingPoint,
+  contactsPoint,
+  pickingPoint,
+  spritesPoint,
+  tablePoint
+} from './page_pictures.mjs';
 import {limitsPoint, placesPoint} from './page_repairs.mjs';
 import {Trial, eightColours, hookedPage} from './page_trial.mjs';
 
@@ -54,8 +61,8 @@ function dropAll(page, files) {
   }, files);
 }
 
-// The mouse's hands. Files fall on the page: Marionette knows no chooser of files.
-class FirefoxHands extends Hands {
+// The user's mouse. Files fall on the page: Marionette knows no chooser of files.
+class FirefoxUser extends User {
   chooseFile(_, ...paths) {
     return dropAll(
         this.page, paths.map((path) => [basename(path), readFileSync(path).toString('base64')])
@@ -64,12 +71,12 @@ class FirefoxHands extends Hands {
 }
 
 const isOpen = (page) =>
-    page.until(() => !document.body.classList.contains('starting') && bench.state !== null, 10000);
+    page.until(() => !document.body.classList.contains('starting') && bench.state !== null);
 
 const steps = {
   async 'the file itself, as it is given away, starts and shows no fault'({page}) {
     await page.goto(pathToFileURL(resolve(PAGE)).href);
-    await page.until(() => document.querySelector('#new-go') !== null, 10000);
+    await page.until(() => document.querySelector('#new-go') !== null);
     const paint = await page.run(
         () => performance.getEntriesByName('first-contentful-paint')[0]?.startTime ??
             performance.now()
@@ -77,10 +84,8 @@ const steps = {
     console.log(`  first paint after ${Math.round(paint)} ms`);
     await page.shot(join(folder, 'start.png'));
     await page.click('#new-go');
-    await page.until(() => !document.body.classList.contains('starting'), 10000);
-    await page.until(
-        () => /unique|ambiguous|other/i.test(document.querySelector('#audit').textContent), 10000
-    );
+    await page.until(() => !document.body.classList.contains('starting'));
+    await page.until(() => /Blank/.test(document.querySelector('#audit').textContent));
     await page.shot(join(folder, 'new.png'));
   },
   async 'a picture is painted by the mouse, with clues and verdict'({page, trial}) {
@@ -110,10 +115,10 @@ const steps = {
     assert.equal((await trial.picture())[8].slice(8, 13), '..a..');
   },
   async 'a reload loses nothing'({page, trial}) {
-    await page.until(() => keep.keeper.isDone && keep.isKept, 5000);
+    await page.until(() => keep.keeper.isDone && keep.isKept);
     const before = await trial.state();
     await trial.load();
-    await page.until(() => document.querySelector('#kept .kept'), 5000);
+    await page.until(() => document.querySelector('#kept .kept'));
     await page.click('#kept .kept');
     await isOpen(page);
     const after = await trial.state();
@@ -130,8 +135,7 @@ const steps = {
       if (name.endsWith('.png'))
         await page.until(
             () => document.querySelector('dialog[open]') !== null ||
-                !document.body.classList.contains('starting'),
-            5000
+                !document.body.classList.contains('starting')
         );
       if (await page.run(() => document.querySelector('dialog[open]') !== null))
         await page.press('Enter');
@@ -166,18 +170,16 @@ const steps = {
     await drop(page, 'key.cert', certificate);
     await page.until(
         () => document.getElementById('said'
-        ).textContent.includes('only solution with its given cells'),
-        8000
+        ).textContent.includes('only solution with its given cells')
     );
     await page.run(() => runAction('new'));
-    await page.until(() => document.querySelector('#library .kept'), 5000);
+    await page.until(() => document.querySelector('#library .kept'));
     const count = await page.run(async () => (await keep.keeper.cards()).length);
     await page.click('#library-export');
     await drop(page, 'all.zip', await downloaded('.zip'));
     await page.until(
         (wanted) => document.getElementById('said'
         ).textContent.includes(`${wanted} picture${wanted === 1 ? '' : 's'} there already`),
-        8000,
         count
     );
     assert.equal(await page.run(async () => (await keep.keeper.cards()).length), count);
@@ -190,9 +192,9 @@ const steps = {
       window.print = () => {};
     });
     await page.press('Control+p');
-    await page.until(() => document.querySelector('dialog[open]') !== null, 5000);
+    await page.until(() => document.querySelector('dialog[open]') !== null);
     await page.press('Enter');
-    await page.until(() => document.querySelectorAll('.printed').length === 2, 5000);
+    await page.until(() => document.querySelectorAll('.printed').length === 2);
     const pdf = Buffer.from(await browser.send('WebDriver:Print', {}), 'base64');
     writeFileSync(join(folder, 'sheet.pdf'), pdf);
     assert.equal(pdf.subarray(0, 5).toString(), '%PDF-');
@@ -215,7 +217,7 @@ const steps = {
       await isOpen(page);
       assert.deepEqual((await trial.state()).picture, picture);
     }
-    await page.until(() => document.getElementById('play-room')?.open, 5000);
+    await page.until(() => document.getElementById('play-room')?.open);
     await page.press('Escape');
     assert.equal(await page.run(() => document.getElementById('play-room').open), true);
   },
@@ -240,7 +242,7 @@ for (const [name, act] of Object.entries(POINTS)) {
   steps[name] = async ({page, trial}) => {
     await clean(page);
     await trial.load();
-    await act(new FirefoxHands(page, trial, 'mouse'), {page, trial, own: downloads, folder});
+    await act(new FirefoxUser(page, trial, 'mouse'), {page, trial, own: downloads, folder});
     await page.run(() => {
       bench.isSaved = true;
     });

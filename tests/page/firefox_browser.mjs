@@ -89,13 +89,13 @@ export class Firefox {
     for (let colon = this.rest.indexOf(58); colon > 0; colon = this.rest.indexOf(58)) {
       const size = Number(this.rest.subarray(0, colon));
       if (this.rest.length < colon + 1 + size) return;
-      const told = JSON.parse(this.rest.subarray(colon + 1, colon + 1 + size));
+      const message = JSON.parse(this.rest.subarray(colon + 1, colon + 1 + size));
       this.rest = this.rest.subarray(colon + 1 + size);
-      if (!Array.isArray(told)) {
+      if (!Array.isArray(message)) {
         this.hello();
         continue;
       }
-      const [, id, error, result] = told;
+      const [, id, error, result] = message;
       const {go, stop} = this.waiting.get(id);
       this.waiting.delete(id);
       if (error)
@@ -144,8 +144,8 @@ export class Tab {
     return value;
   }
 
-  until(what, ms, ...words) {
-    return until(this, what, ms, ...words);
+  until(what, ...words) {
+    return until(this, what, ...words);
   }
 
   act(actions) {

@@ -15,7 +15,7 @@ import {long, waits} from '../waits.mjs';
 
 const wasm = resolve(moduleFile);
 const root = fileURLToPath(new URL('../../', import.meta.url));
-const skip = needsModule.skip || waits('0.7.0');
+const skip = needsModule.skip || waits('0.8.0');
 const LETTERS = '.abcdefghijklmno';
 const WHITE = /^(\d+),\1,\1$/;
 const linesOf = (text) => text.split('; ').map((line) => `${line}\n`).join('');

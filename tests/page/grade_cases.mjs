@@ -25,7 +25,7 @@ function gradeText({open, grade: {word, rounds, evaluations, wait, splits, depth
 const figuresOf = (grade) => grade.replace(/^[a-z ]+: /, '').replace(/, splits .*$/, '');
 
 // What is said of a case's puzzle: its grade, or the verdict where it has none.
-function toldOf(module, words) {
+function gradeOfCase(module, words) {
   const [, rows, givens = '', certificate] = FORM.exec(words);
   const picture = rows.split('/');
   const text = `P3 ${picture[0].length} ${picture.length} 255\n${
@@ -39,15 +39,15 @@ function toldOf(module, words) {
 const lines = readFileSync(
                   new URL('../cases/grade.case', import.meta.url), 'utf8'
 ).split('\n').filter((line) => line && !line.startsWith('#'));
-const skip = needsModule.skip || waits('0.7.0');
+const skip = needsModule.skip || waits('0.8.0');
 test('grades are those of the cases', {skip}, async () => {
   const module = await engine();
   for (const line of lines) {
-    const [words, wanted] = line.split(' => '), said = toldOf(module, words);
+    const [words, wanted] = line.split(' => '), said = gradeOfCase(module, words);
     const [bare, cert] = words.split(' cert ');
     if (cert) {
       // The engine makes a tree of its own, whichever certificate comes with the puzzle.
-      assert.equal(said, toldOf(module, bare), line.slice(0, 60));
+      assert.equal(said, gradeOfCase(module, bare), line.slice(0, 60));
       assert.equal(figuresOf(said), figuresOf(wanted), line.slice(0, 60));
     } else {
       assert.equal(said, wanted, line.slice(0, 60));

@@ -1,5 +1,5 @@
-// Tests of what Fix it advises a picture of which few repaints make no puzzle, and of which
-// symmetry repairs keep. Run: node --test tests/page/page_advice.mjs
+// Tests of what Fix it advises a picture of which few repaints make no puzzle, of which symmetry
+// repairs keep, and of the order of proposals. Run: node --test tests/page/page_advice.mjs
 import assert from 'node:assert/strict';
 import {test} from 'node:test';
 import '../../page/test/limits.mjs';
@@ -7,7 +7,7 @@ import {noise} from './page_trial.mjs';
 
 const {dithered} = await import('../../page/import/cells.js');
 const {adviceOf} = await import('../../page/repair/advice.js');
-const {mirrorOf, mirrorOfPens} = await import('../../page/view/ranking.js');
+const {bySize, mirrorOf, mirrorOfPens, seenOf} = await import('../../page/view/ranking.js');
 
 const SIX = [
   [20, 30, 60],
@@ -46,7 +46,7 @@ test(
     }
 );
 
-test('a bolder threshold is advised for two colours and few cells alone', () => {
+test('a higher threshold is advised for two colours and few cells alone', () => {
   const lines = Array.from({length: 20}, (_, row) => (row % 6 ? '.' : 'a').repeat(20));
   assert.equal(adviceOf({picture: lines}), 'thin');
   assert.equal(adviceOf({picture: lines.map((row) => row.replaceAll('.', 'b'))}), 'areas');
@@ -73,4 +73,36 @@ test('repairs keep the symmetry of the pens where the picture has it', () => {
   assert.deepEqual(kept(both), [null, 'x', 'y', 'x', null]);
   assert.deepEqual(kept(none), [null, null, null, null, null]);
   assert.deepEqual([across, down, both, none].map(mirrorOf), ['x', 'y', 'x', null]);
+});
+
+test('the order of proposals is the same whatever was found first', () => {
+  const state = {
+    picture: ['....', '.aa.', '.aa.', '....'],
+    columns: 4,
+    maxval: 255,
+    colours: [[255, 255, 255], [0, 0, 0]]
+  };
+  // The corners of a box are seen alike. One of them breaks the symmetry of left and right, two of
+  // one row keep it.
+  const painted = (...places) => ({
+    goal: 'lines',
+    cells: places.map((index) => ({index, colour: 'a.'.indexOf(state.picture.join('')[index])}))
+  });
+  const wanted = [
+    painted(5, 6),
+    painted(9, 10),
+    painted(5),
+    painted(6),
+    painted(9),
+    painted(10),
+    painted(5, 10),
+    {...painted(6), goal: 'unique', open: 2}
+  ].map((one) => ({...one, ...seenOf(state, one)}));
+  const given = [{given: [4], isLeast: true}, {given: [9]}, {given: [3, 5]}, {given: [3, 12]}];
+  for (const list of [wanted, given])
+    for (let turn = 0; turn < list.length; turn++) {
+      const turned = [...list.slice(turn), ...list.slice(0, turn)];
+      assert.deepEqual([...turned].sort(bySize), list);
+      assert.deepEqual(turned.reverse().sort(bySize), list);
+    }
 });

@@ -181,13 +181,15 @@ test('where no worker comes in its place, what is shown is what is there', async
   let isBroken = false;
   const {bench} = await opened(empty(3, 4), {fails: () => isBroken});
   await bench.stroke(['paint 1 1 a']);
-  const told = [];
-  const ends =
-      [on('shown', () => told.push(bench.seen().picture[0])), on('lost', () => told.push('lost'))];
+  const heard = [];
+  const ends = [
+    on('shown', () => heard.push(bench.seen().picture[0])),
+    on('lost', () => heard.push('lost'))
+  ];
   isBroken = true;
   await assert.rejects(bench.stroke(['paint 1 2 b']));
   for (const end of ends) end();
-  assert.deepEqual(told, ['a...', 'lost']);
+  assert.deepEqual(heard, ['a...', 'lost']);
   isBroken = false;
   await bench.stroke(['paint 1 3 b']);
   assert.equal(bench.state.picture[0], 'a.b.');

@@ -2,7 +2,7 @@
 // numbers and solutions, in one dialog; many of them with what stops it.
 import assert from 'node:assert/strict';
 import {readFileSync} from 'node:fs';
-import {downloaded, examples, fresh} from './page_hands.mjs';
+import {downloaded, examples, fresh} from './page_common.mjs';
 import {SLACK} from './page_trial.mjs';
 
 const NO_PRINT = () => {
@@ -20,13 +20,20 @@ async function fill(page, names) {
         readFileSync(new URL(`${name}.ppm`, examples), 'utf8'),
         name
     );
-  await page.until(() => keep.keeper.isDone && keep.isKept, 5000 * SLACK);
+  await page.until(() => keep.keeper.isDone && keep.isKept);
 }
+
+// Presses the button of the open dialog whose text begins so.
+const pressInDialog = (page, words) => page.run(
+    (text) => [...document.querySelectorAll('dialog .buttons button')]
+                  .find((one) => one.textContent.startsWith(text))
+                  .click(),
+    words
+);
 
 const judged = (page) => page.until(
     () => document.getElementById('book-stop')?.disabled &&
-        / left out/.test(document.getElementById('book-status').textContent),
-    60000 * SLACK
+        / on \d+ sheets?/.test(document.getElementById('book-status').textContent)
 );
 const ticked = (page) => page.run(
     () => [...document.querySelectorAll('#book-list .page')]
@@ -38,26 +45,23 @@ const printed = (page) =>
     page.run(() => [...document.querySelectorAll('.printed')].map((one) => one.textContent));
 
 /** What is fit is in the book, what is ambiguous once it is repaired; a tick leaves one out. */
-export async function bookPoint(hands, {page}) {
+export async function bookPoint(user, {page}) {
   await page.run(NO_PRINT);
   await fill(page, ['boat', 'balloon', 'heart']);
-  await hands.menu('file', 'book');
+  await user.menu('file', 'book');
   await judged(page);
   assert.deepEqual(await ticked(page), ['boat', 'heart'], 'the balloon is ambiguous');
-  await hands.press('#book-repair');
-  await page.until(
-      () => document.querySelectorAll('#book-list input:checked').length === 3, 60000 * SLACK
-  );
+  await user.press('#book-repair');
+  await page.until(() => document.querySelectorAll('#book-list input:checked').length === 3);
   await judged(page);
-  await hands.tick('#book-list [data-name="heart"] input');
+  await user.tick('#book-list [data-name="heart"] input');
   await page.until(
-      () => /^2 puzzles on 4 sheets/.test(document.getElementById('book-status').textContent),
-      5000 * SLACK
+      () => /^2 puzzles on 4 sheets/.test(document.getElementById('book-status').textContent)
   );
-  await hands.press('#book-after');
-  await page.until(() => document.getElementById('book-sheet').value === '2 of 4', 3000 * SLACK);
-  await hands.press('dialog button.main');
-  await page.until(() => window.isPrinted, 20000 * SLACK);
+  await user.press('#book-after');
+  await page.until(() => document.getElementById('book-sheet').value === '2 of 4');
+  await user.press('dialog button.main');
+  await page.until(() => window.isPrinted);
   const [cover, first, second, solutions] = await printed(page);
   assert.match(cover, /^\s*Nonograms\s*2 puzzles, easy/);
   assert.match(first, /Puzzle 1/);
@@ -113,7 +117,7 @@ export async function manyInBook({browser, url, folder}) {
   await page.run(() => {
     runAction('book');
   });
-  await page.until(() => document.querySelectorAll('#book-list .page').length === 200, MOST_MS);
+  await page.until(() => document.querySelectorAll('#book-list .page').length === 200);
   await page.run(() => document.getElementById('book-stop').click());
   await judged(page);
   const some = (await ticked(page)).length;
@@ -122,7 +126,7 @@ export async function manyInBook({browser, url, folder}) {
   await page.run(() => {
     runAction('book');
   });
-  await page.until(() => document.querySelectorAll('#book-list .page').length === 200, MOST_MS);
+  await page.until(() => !document.getElementById('book-stop').disabled);  // it goes on
   await judged(page);
   const puzzles = (await ticked(page)).length;
   assert.ok(puzzles > 100, `${puzzles} of them are fit`);
@@ -130,7 +134,7 @@ export async function manyInBook({browser, url, folder}) {
     document.getElementById('print-grade').click();
     document.querySelector('dialog button.main').click();
   });
-  await page.until(() => window.isPrinted, MOST_MS * SLACK);
+  await page.until(() => window.isPrinted);
   assert.ok(Date.now() - begun < MOST_MS * SLACK, `${Date.now() - begun} ms`);
   const grades =
       (await printed(page))
@@ -160,20 +164,58 @@ export async function bookOfFiles({browser, url, folder}) {
           (name) => [`${name}.ppm`, readFileSync(new URL(`${name}.ppm`, examples), 'utf8')]
       )
   );
-  await page.until(() => document.getElementById('several'), 20000 * SLACK);
-  await page.run(
-      () => [...document.querySelectorAll('dialog .buttons button')]
-                .find((one) => one.textContent.startsWith('Make a book'))
-                .click()
-  );
+  await page.until(() => document.getElementById('several'));
+  await pressInDialog(page, 'Make a book');
   await judged(page);
   assert.deepEqual(await ticked(page), ['boat', 'heart']);
-  await page.run(
-      () => [...document.querySelectorAll('dialog .buttons button')]
-                .find((one) => one.textContent.startsWith('Save all'))
-                .click()
-  );
+  await pressInDialog(page, 'Save all');
   const {name} = await downloaded(page, own, '.zip');
   assert.equal(name, 'Nonograms.zip');
+  await page.close();
+}
+
+/**
+ * An icon that is no pixel art is made a puzzle, and what is no puzzle is listed with the reason;
+ * the list, its ticks and the title stay as they were left, until the list is emptied.
+ */
+export async function bookOfIcons({browser, url, folder}) {
+  const {page} = await fresh(browser, url, folder, 'book-icons');
+  await page.run(async () => {
+    const canvas = Object.assign(document.createElement('canvas'), {width: 201, height: 201});
+    const pen = canvas.getContext('2d');
+    pen.fillStyle = '#fff';
+    pen.fillRect(0, 0, 201, 201);
+    pen.fillStyle = '#c03020';
+    pen.arc(100, 100, 80, 0, 2 * Math.PI);
+    pen.fill();
+    const icon = new File([await new Promise((go) => canvas.toBlob(go))], 'disc.png');
+    const dataTransfer = new DataTransfer();
+    for (const file of [icon, new File(['nothing'], 'notes.txt')]) dataTransfer.items.add(file);
+    document.body.dispatchEvent(
+        new DragEvent('drop', {dataTransfer, bubbles: true, cancelable: true})
+    );
+  });
+  await page.until(() => document.getElementById('several'));
+  await pressInDialog(page, 'Make a book');
+  await judged(page);
+  assert.deepEqual(await ticked(page), ['disc']);
+  const text = (id) => page.run((one) => document.getElementById(one).textContent, id);
+  assert.match(await text('book-list'), /notes it is neither a picture nor a puzzle/);
+  assert.match(await text('book-status'), /^1 puzzle on .* 1 file not read\.$/);
+  await page.run(() => {
+    document.querySelector('#book-list input').click();
+    document.getElementById('book-title').value = 'Icons';
+  });
+  await page.press('Escape');
+  const open = () => page.run(() => {
+    runAction('book');
+  });
+  await open();
+  await judged(page);
+  assert.equal(await page.run(() => document.querySelectorAll('#book-list .page').length), 1);
+  assert.deepEqual(await ticked(page), []);
+  assert.equal(await page.run(() => document.getElementById('book-title').value), 'Icons');
+  await page.run(() => document.getElementById('book-empty').click());
+  assert.equal(await page.run(() => document.getElementById('book-list').children.length), 0);
   await page.close();
 }

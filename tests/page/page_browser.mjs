@@ -37,16 +37,22 @@ const NAMED = {
 
 export const pause = (ms) => new Promise((go) => setTimeout(go, ms));
 
-/** Waits until a function run in a page gives something true; gives it. */
-export async function until(page, what, ms, ...words) {
-  const end = Date.now() + ms;
+/** Who waits longer than this for anything has failed: no machine is so busy. In milliseconds. */
+export const MOST_WAIT = 5 * 60 * 1000;
+
+/** Waits until a function gives something true, and gives it. `what` names it in an error. */
+export async function waitFor(look, what) {
+  const end = Date.now() + MOST_WAIT;
   for (;;) {
-    const value = await page.run(what, ...words);
+    const value = await look();
     if (value) return value;
-    if (Date.now() > end) throw new Error(`not within ${ms} ms: ${what}`);
+    if (Date.now() > end) throw new Error(`not within ${MOST_WAIT} ms: ${what}`);
     await pause(15);
   }
 }
+
+/** Waits until a function run in a page gives something true, and gives it. */
+export const until = (page, what, ...words) => waitFor(() => page.run(what, ...words), what);
 
 /** A browser with a folder of its own. */
 export class Browser {
@@ -128,7 +134,7 @@ export class Page {
   constructor(browser, sessionId, targetId) {
     Object.assign(
         this,
-        {browser, sessionId, targetId, faults: [], dialogs: [], held: 0, at: [0, 0], wakes: []}
+        {browser, sessionId, targetId, faults: [], dialogs: [], pressed: 0, at: [0, 0], wakes: []}
     );
   }
 
@@ -184,16 +190,16 @@ export class Page {
     return result.value;
   }
 
-  until(what, ms, ...words) {
-    return until(this, what, ms, ...words);
+  until(what, ...words) {
+    return until(this, what, ...words);
   }
 
   mouse(type, x, y, {button = 'left', keys = 0, count = 1, wheel = null} = {}) {
     this.at = [x, y];
-    const buttons = type === 'mouseMoved' ? this.held :
-        type === 'mousePressed'           ? (this.held = BUTTONS[button]) :
-                                            (this.held = 0);
-    const named = type === 'mouseMoved' ? (this.held ? button : 'none') : button;
+    const buttons = type === 'mouseMoved' ? this.pressed :
+        type === 'mousePressed'           ? (this.pressed = BUTTONS[button]) :
+                                            (this.pressed = 0);
+    const named = type === 'mouseMoved' ? (this.pressed ? button : 'none') : button;
     const more = wheel ? {deltaX: wheel[0], deltaY: wheel[1]} : {};
     return this.send('Input.dispatchMouseEvent', {
       type,

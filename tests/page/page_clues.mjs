@@ -60,18 +60,18 @@ test('the clues of an archive, by the colours of its document', async () => {
 });
 
 test('what the engine tells stands in the archive, and nothing else', async () => {
-  const told = (text) =>
+  const alter = (text) =>
       text.replace('r 1: 1c 1a\n', 'r 1: 7b 1a\n').replace('c 3: 2a\n', 'c 3: 9d\n');
-  const {found} = await made((start) => archiveOf([{name: 'pier', doc: PIER}], [], start), {told});
+  const {found} = await made((start) => archiveOf([{name: 'pier', doc: PIER}], [], start), {alter});
   assert.deepEqual(
       await cluesIn(found), ['2 sea', '1 sea', '9 unused too', '7 unused, 1 ink', '2 sea, 1 ink']
   );
 });
 
 test('what the engine tells is what is printed of pictures of the library', async () => {
-  const told = (text) => text.replace('r 1: 1c 1a\n', 'r 1: 7b 1a\n');
+  const alter = (text) => text.replace('r 1: 1c 1a\n', 'r 1: 7b 1a\n');
   const {found: [puzzle]} =
-      await made((start) => withClues([{name: 'pier', doc: PIER, grade: 'hard'}], start), {told});
+      await made((start) => withClues([{name: 'pier', doc: PIER, grade: 'hard'}], start), {alter});
   assert.deepEqual([puzzle.name, puzzle.grade, puzzle.doc.about.title], ['pier', 'hard', 'Pier']);
   assert.deepEqual(puzzle.clues.rows, [
     [{length: 7, letter: 'b'}, {length: 1, letter: 'a'}],
@@ -148,7 +148,7 @@ test('where a picture does not open, nothing leaves, and that is said', async ()
   assert.deepEqual([wide.found, wide.workers.map((worker) => worker.isEnded)], [null, [true]]);
   assert.match(line.text, /^Nothing was saved or printed, as “three” could not be opened: ./);
   const strange = await made((start) => withClues(puzzles.slice(0, 1), start), {
-    told: (text) => text.replace('clues\n', 'other clues\n')
+    alter: (text) => text.replace('clues\n', 'other clues\n')
   });
   assert.deepEqual(
       [strange.found, strange.workers[0].isEnded, line.dataset.kind], [null, true, 'alarm']

@@ -8,7 +8,12 @@ import {emptyDoc} from '../../page/document/document.js';
 import {COLOUR_NAMES, colourNamed} from '../../page/document/named.js';
 import {nameOf, namesOf} from '../../page/document/names.js';
 import {clashesWith, seenWith} from '../../page/document/vision.js';
-import {PaletteFault, kindOfPalette, paletteText, readPalette} from '../../page/formats/palettes.js';
+import {
+  PaletteFault,
+  kindOfPalette,
+  paletteText,
+  readPalette
+} from '../../page/formats/palettes.js';
 import {withMore, withNearest} from '../../page/import/palettes.js';
 import {DE} from '../../page/texts/de.js';
 import {EN} from '../../page/texts/en.js';

@@ -3,18 +3,16 @@
 import assert from 'node:assert/strict';
 import {readFileSync, writeFileSync} from 'node:fs';
 import {join} from 'node:path';
-import {downloaded, drop, examples, fresh, isOpen, said} from './page_hands.mjs';
+import {downloaded, drop, examples, fresh, isOpen, said} from './page_common.mjs';
 import {drawn} from './page_icons.mjs';
 import {pause} from './page_browser.mjs';
-import {SLACK, ppmOf} from './page_trial.mjs';
+import {ppmOf} from './page_trial.mjs';
 
 const colours = (page) => page.run(
     () => [...document.querySelectorAll('#import-palette button')].map((one) => one.title)
 );
 const facts = (page, text, ms = 10000) => page.until(
-    (wanted) => document.querySelector('#import-facts')?.textContent.includes(wanted),
-    ms * SLACK,
-    text
+    (wanted) => document.querySelector('#import-facts')?.textContent.includes(wanted), text
 );
 
 /** Opens the dialog on an icon of the tests. */
@@ -32,14 +30,14 @@ async function openIcon(page, name, side = 200) {
     const blob = await new Promise((go) => canvas.toBlob(go, 'image/png'));
     takeFile(new File([blob], 'icon.png', {type: 'image/png'}));
   }, side, Buffer.from(image.data).toString('base64'));
-  await page.until(() => document.querySelector('#import-facts')?.textContent, 10000 * SLACK);
+  await page.until(() => document.querySelector('#import-facts')?.textContent);
 }
 
 /** Moves a slider by keys, or by a press on its track: to its least or its greatest value. */
-async function slide(hands, id, toMost) {
-  const {page} = hands;
-  if (hands.byKeys) {
-    await hands.tabTo(`#${id}`);
+async function slide(user, id, toMost) {
+  const {page} = user;
+  if (user.byKeys) {
+    await user.tabTo(`#${id}`);
     return page.press(toMost ? 'End' : 'Home');
   }
   const [x, y] = await page.middle(`#${id}`);
@@ -48,7 +46,7 @@ async function slide(hands, id, toMost) {
     return [box.left, box.right];
   }, id);
   const to = [toMost ? right - 3 : left + 3, y];
-  if (hands.input === 'mouse') return page.drag([to]);
+  if (user.input === 'mouse') return page.drag([to]);
   const send = (type, points) => page.send(
       'Input.dispatchTouchEvent', {type, touchPoints: points.map(([a, b]) => ({x: a, y: b}))}
   );
@@ -65,7 +63,7 @@ async function slide(hands, id, toMost) {
  * The palette is shown while one chooses: a colour is locked, replaced, dropped, and all of that
  * taken back.
  */
-export async function choosingPoint(hands, {page, trial}) {
+export async function choosingPoint(user, {page, trial}) {
   await openIcon(page, 'house');
   const first = await colours(page);
   assert.deepEqual(
@@ -74,8 +72,8 @@ export async function choosingPoint(hands, {page, trial}) {
       'its own colours'
   );
   const choose = async (colour) => {
-    if (hands.byKeys) {
-      await hands.tabTo('#import-palette [aria-checked=true]');
+    if (user.byKeys) {
+      await user.tabTo('#import-palette [aria-checked=true]');
       for (let step = 0; step < 16 &&
            await page.run(
                (wanted) =>
@@ -85,42 +83,38 @@ export async function choosingPoint(hands, {page, trial}) {
            step++)
         await page.press('ArrowRight');
     } else
-      await hands.press(`#import-palette [title="${colour}"]`);
+      await user.press(`#import-palette [title="${colour}"]`);
     await page.until(
         (wanted) => document.querySelector('#import-palette [aria-checked=true]').title === wanted,
-        2000 * SLACK,
         colour
     );
   };
   await choose('#285ac8');  // the windows
-  if (hands.byKeys) {
-    await hands.tabTo('#import-lock');
+  if (user.byKeys) {
+    await user.tabTo('#import-lock');
     await page.press(' ');
   } else
-    await hands.press('#import-lock');
-  await page.until(
-      () => document.querySelector('#import-ink').value.includes('locked'), 3000 * SLACK
-  );
-  await slide(hands, 'import-colours', false);
+    await user.press('#import-lock');
+  await page.until(() => document.querySelector('#import-ink').value.includes('locked'));
+  await slide(user, 'import-colours', false);
   await facts(page, '2 colours');
   assert.ok((await colours(page)).includes('#285ac8'), 'what is locked stays');
-  await slide(hands, 'import-colours', true);
+  await slide(user, 'import-colours', true);
   await facts(page, '6 colours');
   await choose('#a83e2c');
-  await hands.press('#import-drop');
+  await user.press('#import-drop');
   await facts(page, '5 colours');
   assert.ok(!(await colours(page)).includes('#a83e2c'), 'dropped');
   await choose('#3c8c40');
-  await hands.fill('.inks input[list]', 'gold');
+  await user.fill('.inks input[list]', 'gold');
   await page.press('Tab');
   await page.until(
       () => [...document.querySelectorAll('#import-palette button')].some(
           (one) => one.title === '#ffd700'
-      ),
-      3000 * SLACK
+      )
   );
   assert.ok(!(await colours(page)).includes('#3c8c40'), 'replaced');
-  await hands.press('dialog button.main');
+  await user.press('dialog button.main');
   await isOpen(page);
   const {colours: made} = await trial.state();
   assert.deepEqual(
@@ -144,28 +138,25 @@ export async function pressedColour({browser, url, folder}) {
     one.dispatchEvent(new Event('input', {bubbles: true}));
   });
   await page.until(
-      (from) => document.querySelector('#import-preview').toDataURL() !== from, 5000 * SLACK, before
+      (from) => document.querySelector('#import-preview').toDataURL() !== from, before
   );
   await page.mouse('mouseReleased', ...at);
   await page.until(
-      (one) => document.querySelector(one).getAttribute('aria-checked') === 'true',
-      2000 * SLACK,
-      third
+      (one) => document.querySelector(one).getAttribute('aria-checked') === 'true', third
   );
   await page.press('Escape');
   await page.close();
 }
 
 /** Verdict and grade follow each change; the newest wins. */
-export async function slidingPoint(hands, {page, trial}) {
+export async function slidingPoint(user, {page, trial}) {
   await openIcon(page, 'mug');
-  const told = () => page.until(
+  const judged = () => page.until(
       () => /^(Unique.*(easy|medium|hard|expert)|Ambiguous)/
                 .exec(document.querySelector('#import-verdict').textContent)
-                ?.[0],
-      15000 * SLACK
+                ?.[0]
   );
-  await told();
+  await judged();
   for (const [id, toMost] of [
            ['import-brightness', true],
            ['import-brightness', false],
@@ -173,26 +164,24 @@ export async function slidingPoint(hands, {page, trial}) {
            ['import-colours', false],
            ['import-specks', true]]) {
     const before = await page.run(() => document.querySelector('#import-preview').toDataURL());
-    await slide(hands, id, toMost);
+    await slide(user, id, toMost);
     await page.run(
         () => new Promise((go) => requestAnimationFrame(() => requestAnimationFrame(go)))
     );
     if (id === 'import-brightness')
       await page.until(
-          (from) => document.querySelector('#import-preview').toDataURL() !== from,
-          3000 * SLACK,
-          before
+          (from) => document.querySelector('#import-preview').toDataURL() !== from, before
       );
     const box = await page.run(() => {
       const {top, bottom} = document.querySelector('#import-preview').getBoundingClientRect();
       return [top, bottom, innerHeight];
     });
-    if (hands.input === 'touch')
+    if (user.input === 'touch')
       assert.ok(box[0] >= 0 && box[1] <= box[2], `the preview is seen: ${box}`);
   }
-  await slide(hands, 'import-specks', false);
-  const shown = await told();
-  await hands.press('dialog button.main');
+  await slide(user, 'import-specks', false);
+  const shown = await judged();
+  await user.press('dialog button.main');
   await isOpen(page);
   const word = await trial.judged();
   assert.ok(shown.startsWith(word === 'unique' ? 'Unique' : 'Ambiguous'), `${shown}, but ${word}`);
@@ -225,8 +214,7 @@ export async function lineArt({browser, url, folder}) {
   const drawnNow = async () => {
     await pause(500);
     await page.until(
-        () => !document.querySelector('#import-verdict').textContent.startsWith('Looking'),
-        15000 * SLACK
+        () => !document.querySelector('#import-verdict').textContent.startsWith('Looking')
     );
     return dark();
   };
@@ -235,7 +223,7 @@ export async function lineArt({browser, url, folder}) {
   const thin = await drawnNow();
   await tick('Line art');
   await set('import-area', 20);
-  await page.until(() => document.querySelector('#import-area').checkVisibility(), 2000 * SLACK);
+  await page.until(() => document.querySelector('#import-area').checkVisibility());
   const thick = await drawnNow();
   assert.ok(thick > thin * 1.2, `${thin}, ${thick}`);
   await tick('Two colours');
@@ -250,8 +238,7 @@ export async function lineArt({browser, url, folder}) {
 /** The image of a puzzle can be adjusted after it was made, as one undo. */
 export async function importAdjusted({browser, url, folder}) {
   const {page, trial} = await fresh(browser, url, folder, 'adjusted');
-  const isAsked = () =>
-      page.until(() => document.querySelector('dialog[open] #import-columns'), 10000 * SLACK);
+  const isAsked = () => page.until(() => document.querySelector('dialog[open] #import-columns'));
   const columns = () => page.run(() => document.getElementById('import-columns').value);
   await openIcon(page, 'outline');
   await page.press('Enter');
@@ -269,11 +256,10 @@ export async function importAdjusted({browser, url, folder}) {
   });
   await page.until(
       () => /\S/.test(document.getElementById('import-verdict').textContent) &&
-          !document.getElementById('import-verdict').textContent.startsWith('Looking'),
-      20000 * SLACK
+          !document.getElementById('import-verdict').textContent.startsWith('Looking')
   );
   await page.click('dialog[open] button.main');
-  await page.until(() => bench.state.columns === 25, 10000 * SLACK);
+  await page.until(() => bench.state.columns === 25);
   assert.equal(await page.run(() => bench.state.about.title), 'Kept');
   assert.equal((await trial.state()).strokes[0], 1, 'one undo');
   await trial.press('Control+z');
@@ -338,7 +324,7 @@ export async function largeIsTold({browser, url, folder}) {
     ).observe(line, {childList: true, characterData: true, subtree: true});
   });
   await bigPng(page, 3504);
-  await facts(page, '40 by 40 cells', 60000);
+  await facts(page, '40 by 40 cells');
   const heard = await page.run(() => window.heard);
   assert.deepEqual(heard.find(([text]) => text.includes('Opening')), ['Opening large', true]);
   assert.equal(await said(page), '', 'the dialog speaks for itself');
@@ -349,7 +335,7 @@ export async function largeIsTold({browser, url, folder}) {
 export async function hundredMegapixels({browser, url, folder}) {
   const {page, trial} = await fresh(browser, url, folder, 'hundred');
   await bigPng(page, 10000);
-  await facts(page, '40 by 40 cells', 60000).catch(async () => {
+  await facts(page, '40 by 40 cells').catch(async () => {
     throw new Error(await said(page));
   });
   await page.press('Enter');
@@ -375,7 +361,7 @@ export async function longImages({browser, url, folder}) {
  * A palette file gives colours to a picture, the picture's go into one, and a colour is changed by
  * its name.
  */
-export async function palettesPoint(hands, {page, trial, own}) {
+export async function palettesPoint(user, {page, trial, own}) {
   await trial.open(ppmOf(['ab.', '.aa']));
   const palette = async () => (await trial.state()).colours.map((triple) => triple.join());
   const path = join(own, 'sea.gpl');
@@ -383,37 +369,32 @@ export async function palettesPoint(hands, {page, trial, own}) {
       path,
       'GIMP Palette\nName: Sea\n#\n  0   0 128\tnavy\n 70 130 180\tsteel\n250 250 250\n 10  10  10\n190  50  50\n'
   );
-  const open = () => hands.chooseFile(() => hands.menu('picture', 'palette-open'), path);
+  const open = () => user.chooseFile(() => user.menu('picture', 'palette-open'), path);
   await open();
+  await page.until(() => document.querySelectorAll('#palette-file button').length === 5);
+  await user.press('dialog button.main');
   await page.until(
-      () => document.querySelectorAll('#palette-file button').length === 5, 5000 * SLACK
+      () => document.querySelector('dialog .wrong').textContent.includes('Choose a colour')
   );
-  await hands.press('dialog button.main');
-  await page.until(
-      () => document.querySelector('dialog .wrong').textContent.includes('Choose a colour'),
-      2000 * SLACK
-  );
-  await hands.press('#palette-file [title^="steel"]');
-  await hands.press('dialog button.main');
-  await page.until(() => bench.state.colours.length === 4, 5000 * SLACK);
+  await user.press('#palette-file [title^="steel"]');
+  await user.press('dialog button.main');
+  await page.until(() => bench.state.colours.length === 4);
   assert.deepEqual(await palette(), ['255,255,255', '0,0,0', '200,40,40', '70,130,180']);
   assert.equal(await page.run(() => bench.state.inks[3].name), 'steel');
   await page.press('Control+z');
   await trial.settled();
   await open();
-  await page.until(
-      () => document.querySelectorAll('#palette-file button').length === 5, 5000 * SLACK
-  );
-  await hands.press('dialog .buttons button:nth-of-type(2)');  // the nearest
-  await page.until(() => bench.state.colours[1].join() === '10,10,10', 5000 * SLACK);
+  await page.until(() => document.querySelectorAll('#palette-file button').length === 5);
+  await user.press('dialog .buttons button:nth-of-type(2)');  // the nearest
+  await page.until(() => bench.state.colours[1].join() === '10,10,10');
   assert.deepEqual(await palette(), ['250,250,250', '10,10,10', '190,50,50']);
-  await hands.colour('b');
-  await hands.fill('#colour-named', 'tomato');
+  await user.colour('b');
+  await user.fill('#colour-named', 'tomato');
   await page.press('Enter');
-  await page.until(() => bench.state.colours[2].join() === '255,99,71', 5000 * SLACK);
+  await page.until(() => bench.state.colours[2].join() === '255,99,71');
   await page.run(() => document.activeElement.blur());
-  await hands.menu('picture', 'palette-save');
-  await hands.press('dialog button.main');
+  await user.menu('picture', 'palette-save');
+  await user.press('dialog button.main');
   assert.match(
       (await downloaded(page, own, 'trial.gpl')).content.toString(),
       /^GIMP Palette\nName: trial\nColumns: 0\n#\n250 250 250\t.*\n 10  10  10\t.*\n255  99  71\ttomato\n$/
@@ -428,22 +409,18 @@ export async function droppedPalettes({browser, url, folder}) {
   const {page, trial} = await fresh(browser, url, folder, 'dropped-palettes');
   await drop(page, folder, 'two.hex', 'ff0000\n00ff00\n');
   await page.until(
-      () => document.getElementById('said'
-      ).textContent.includes('is a palette. Open a picture first'),
-      5000 * SLACK
+      () =>
+          document.getElementById('said').textContent.includes('is a palette. Open a picture first')
   );
   await trial.open(ppmOf(['ab.']));
   await drop(page, folder, 'bad.pal', 'JASC-PAL\r\n0100\r\n3\r\n1 2 3\r\n');
   await page.until(
-      () => document.getElementById('said').textContent.includes('the count in line 3'),
-      5000 * SLACK
+      () => document.getElementById('said').textContent.includes('the count in line 3')
   );
   await drop(page, folder, 'two.hex', 'ff0000\n00ff00\n');
-  await page.until(
-      () => document.querySelectorAll('#palette-file button').length === 2, 5000 * SLACK
-  );
+  await page.until(() => document.querySelectorAll('#palette-file button').length === 2);
   await page.press('Escape');
-  await page.until(() => !document.querySelector('dialog[open]'), 3000 * SLACK);
+  await page.until(() => !document.querySelector('dialog[open]'));
   await openIcon(page, 'house');
   await drop(
       page, folder, 'three.hex', 'a0c8e8\nb04030\n408040\n'
@@ -451,28 +428,27 @@ export async function droppedPalettes({browser, url, folder}) {
   await page.until(
       () => [...document.querySelectorAll('#import-palette button')].every(
           (one) => ['#a0c8e8', '#b04030', '#408040'].includes(one.title)
-      ),
-      5000 * SLACK
+      )
   );
   await page.press('Escape');
   await page.close();
 }
 
 /** The check for the colour-blind names the pairs that clash. */
-export async function visionPoint(hands, {page, trial}) {
+export async function visionPoint(user, {page, trial}) {
   await trial.open(
       ppmOf(['abc', '..a'], {'.': '255 255 255', a: '200 90 60', b: '120 130 50', c: '40 60 220'})
   );
-  await hands.menu('check', 'vision');
-  await page.until(() => document.querySelectorAll('.visions figure').length === 3, 3000 * SLACK);
+  await user.menu('check', 'vision');
+  await page.until(() => document.querySelectorAll('.visions figure').length === 3);
   const texts = await page.run(() => Object.fromEntries([
     ...document.querySelectorAll('.visions figure')
   ].map((one) => [one.dataset.kind, one.querySelector('p').textContent])));
   assert.match(texts.deutan, /^Look alike: “.*” \(a\) and “.*” \(b\)\.$/);
   assert.equal(texts.tritan, 'No two colours look alike.');
-  if (hands.byKeys)
+  if (user.byKeys)
     await page.press('Enter');
   else
-    await hands.press('dialog button.main');
-  await page.until(() => !document.querySelector('dialog[open]'), 3000 * SLACK);
+    await user.press('dialog button.main');
+  await page.until(() => !document.querySelector('dialog[open]'));
 }

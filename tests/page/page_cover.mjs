@@ -4,7 +4,14 @@
 import assert from 'node:assert/strict';
 import {test} from 'node:test';
 import '../../page/test/limits.mjs';
-import {baseOf, coverOf, linesTo, placesAfter, repaintLines, withCells} from '../../page/document/cover.js';
+import {
+  baseOf,
+  coverOf,
+  linesTo,
+  placesAfter,
+  repaintLines,
+  withCells
+} from '../../page/document/cover.js';
 import {docOf as wholeDoc, patchOf, patched, sameDoc} from '../../page/document/document.js';
 
 const COLOURS = [[255, 255, 255], [0, 0, 0], [200, 30, 30]];

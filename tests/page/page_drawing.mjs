@@ -1,7 +1,7 @@
 // Tests in the browser: the tools beside the pencil, the selection, turns and sizes, colours, undo
 // by stroke, zoom and pan, the small map, fingers on a phone. Expected pictures were drawn by hand.
 import assert from 'node:assert/strict';
-import {SIZES, SLACK, Trial, noise, ppmOf} from './page_trial.mjs';
+import {SIZES, Trial, noise, ppmOf} from './page_trial.mjs';
 import {pause} from './page_browser.mjs';
 
 const DUCK = ['..aa...', '.aaba..', '..aaaa.', '...aa..', '.......'];
@@ -278,16 +278,16 @@ export async function zooming({trial, page}) {
   });
   const [x, y] = await trial.cell(60, 60);
   for (let turn = 0; turn < 6; turn++) await page.mouse('mouseWheel', x, y, {wheel: [0, -100]});
-  await page.until(
-      () => sheet.geometry.cell > 12 && !document.getElementById('minimap').hidden, 3000 * SLACK
-  );
+  await page.until(() => sheet.geometry.cell > 12 && !document.getElementById('minimap').hidden);
   const under = await page.run((a, b) => sheet.under({clientX: a, clientY: b}), x, y);
   assert.ok(
       Math.abs(under.row - 59) <= 1 && Math.abs(under.col - 59) <= 1,
       'the wheel zooms at the pointer'
   );
   const rolled = await page.run(() => sheet.geometry.cell);
-  for (let turn = 0; turn < 12; turn++) await page.mouse('mouseWheel', x, y, {wheel: [0, -5]});
+  // None waits for the one before: what comes behind a rest would be a step.
+  await Promise.all(Array.from({length: 12}, () => page.mouse('mouseWheel', x, y, {wheel: [0, -5]}))
+  );
   await page.run(() => new Promise((go) => requestAnimationFrame(() => requestAnimationFrame(go))));
   const after = await page.run(() => sheet.geometry.cell);
   assert.ok(
@@ -313,15 +313,14 @@ export async function zooming({trial, page}) {
   await page.until(
       () => [...document.querySelectorAll('.whole')].every(
           (one) => !one.hidden && /(Row|Column) \d+/.test(one.textContent)
-      ),
-      2000 * SLACK
+      )
   );
   const down = await page.run(() => sheet.geometry.panY);
   await page.press('s');
   await page.drag([[x, y], [x, 200], [x, 60]]);
-  await page.until((from) => sheet.geometry.panY < from, 2000 * SLACK, down);
+  await page.until((from) => sheet.geometry.panY < from, down);
   await page.press('Escape', 'z');
-  await page.until(() => document.getElementById('minimap').hidden, 2000 * SLACK);
+  await page.until(() => document.getElementById('minimap').hidden);
 }
 
 export async function letters({trial, page}) {
@@ -341,8 +340,7 @@ export async function letters({trial, page}) {
   assert.deepEqual([await count(0, 2), await count(0, 0)], [1, 1]);
   await page.press('Control+l');
   await page.until(
-      () => sheet.geometry.letters && document.getElementById('row-clue').textContent.includes('a'),
-      2000 * SLACK
+      () => sheet.geometry.letters && document.getElementById('row-clue').textContent.includes('a')
   );
   await page.run(() => new Promise((go) => requestAnimationFrame(() => requestAnimationFrame(go))));
   assert.deepEqual(

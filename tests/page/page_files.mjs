@@ -2,10 +2,19 @@
 // Paint-by-Number's XML. The texts are made by hand after Netpbm's ppm page and
 // webpbn.com/pbn_fmt.html. Run: node --test tests/page/page_files.mjs
 import assert from 'node:assert/strict';
+import {readFileSync} from 'node:fs';
 import {test} from 'node:test';
 import {cluesOf} from '../../page/test/clues.mjs';
 import '../../page/test/limits.mjs';
-import {ABOUT, docOf, emptyDoc, packedDoc, sameBenchPart, sameDoc, unpackedDoc} from '../../page/document/document.js';
+import {
+  ABOUT,
+  docOf,
+  emptyDoc,
+  packedDoc,
+  sameBenchPart,
+  sameDoc,
+  unpackedDoc
+} from '../../page/document/document.js';
 import {FileFault} from '../../page/document/limits.js';
 import {readPpm} from '../../page/formats/ppm.js';
 import {docOfNotes, ppmTextOf} from '../../page/formats/ppm_notes.js';
@@ -108,6 +117,44 @@ test('an image as a document', () => {
   assert.equal(docOfImage(image), null);  // white beside what is transparent
   image.data.fill(3, 16, 19);
   assert.deepEqual(docOfImage(image).picture, ['.ab', 'aca']);
+});
+
+// The cases of tests/cases/backgrounds.txt, each as its keys and values.
+const backgroundCases = () =>
+    readFileSync(new URL('../cases/backgrounds.txt', import.meta.url), 'utf8')
+        .replace(/^#.*\n/gm, '')
+        .trim()
+        .split('\n\n')
+        .map((lines) => Object.fromEntries(lines.split('\n').map((line) => {
+          const [key, ...words] = line.split(' ');
+          return [key, words.join(' ')];
+        })));
+
+test('the background of an image, by the cases of nonobench-audit', () => {
+  const pixelOf =
+      {'-': [0, 0, 0, 0], w: [255, 255, 255, 255], k: [0, 0, 0, 255], r: [255, 0, 0, 255]};
+  const cases = backgroundCases();
+  for (const one of cases) {
+    const rows = one.rows.split('/');
+    const data = Uint8ClampedArray.from([...rows.join('')].flatMap((sign) => pixelOf[sign]));
+    const doc = docOfImage(
+        {width: rows[0].length, height: rows.length, data}, one.named?.split(',').map(Number)
+    );
+    const [triple, why] = one.background?.split(' ') ?? [];
+    // The page asks its user where an audit takes the colour of the corners.
+    if (one.refused || why === 'corners') {
+      assert.equal(doc, null, one.case);
+      continue;
+    }
+    assert.equal(doc.colours[0].join(), triple, one.case);
+    const isGround = (sign) => sign === '-' || pixelOf[sign].slice(0, 3).join() === triple;
+    assert.deepEqual(
+        doc.picture.map((row) => row.replace(/[^.]/g, 'a')),
+        rows.map((row) => [...row].map((sign) => (isGround(sign) ? '.' : 'a')).join('')),
+        one.case
+    );
+  }
+  assert.ok(cases.length > 10);
 });
 
 test('the notes of a P3 text bring back background, palette and givens', () => {
@@ -496,13 +543,13 @@ test('the XML that is written is read back, givens and all', () => {
 
 test('the clues of the XML are those that are handed in, and none are written without', () => {
   const doc = docOf({...emptyDoc(2, 1), picture: ['a.']});
-  const told = {rows: [[{length: 9, letter: 'a'}]], columns: [[{length: 8, letter: 'a'}], []]};
+  const clues = {rows: [[{length: 9, letter: 'a'}]], columns: [[{length: 8, letter: 'a'}], []]};
   const counts = (text) => [...text.matchAll(/<line>(.*)<\/line>/g)].map(
       ([, line]) => line.replace(/<[^>]*>/g, ' ').trim()
   );
-  assert.deepEqual(counts(webpbnText(doc, told)), ['8', '', '9'], 'columns, then rows');
+  assert.deepEqual(counts(webpbnText(doc, clues)), ['8', '', '9'], 'columns, then rows');
   assert.doesNotMatch(webpbnText(doc), /<clues|<line|<count/);
-  assert.doesNotMatch(webpbnText({...doc, clues: told}), /<clues|<line|<count/);
+  assert.doesNotMatch(webpbnText({...doc, clues}), /<clues|<line|<count/);
 });
 
 test('any picture goes out as XML and as P3, and comes back', () => {

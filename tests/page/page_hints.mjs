@@ -1,57 +1,22 @@
 // Tests of hints: who does only what they tell, and marks colours alone, solves each puzzle that
-// lines solve; what a step needs, against all fillings of its line; and how it is told. Run: node
-// --test tests/page/page_hints.mjs
+// lines solve; that a step follows from what the engine says it needs, against all fillings of its
+// line; and how it is said. Run: node --test tests/page/page_hints.mjs
 import assert from 'node:assert/strict';
 import {readFileSync, readdirSync} from 'node:fs';
 import {test} from 'node:test';
-import {engine, hasModule, needsModule} from '../../page/test/worker.mjs';
 import {cluesOf} from '../../page/test/clues.mjs';
-import {answersTo} from '../../page/engine/answers.js';
+import {followed, puzzleOf} from '../../page/test/follower.mjs';
+import {engine, hasModule, needsModule} from '../../page/test/worker.mjs';
 import {isMet} from '../../page/play/crossing.js';
-import {isBackground, knownBy, nextStep} from '../../page/play/hinting.js';
-import {blocksOf, cellsOf, lookAt, reasoned} from '../../page/play/looks.js';
+import {knownBy, stepOf} from '../../page/play/hinting.js';
+import {blocksOf, cellsOf, narrowedBefore} from '../../page/play/lines.js';
 import {Walk} from '../../page/play/path.js';
 import {stepText} from '../../page/play/telling.js';
+import {waits} from '../waits.mjs';
 import {noise, ppmOf} from './page_trial.mjs';
 
 const module = hasModule ? await engine() : null;
-
-// A puzzle in the module: its state, and what answers lines on it anew.
-function puzzleOf(text) {
-  const said = (lines, size) => {
-    const bench = module.open(text);
-    const answers = answersTo(lines, bench.say(lines.map((line) => `${line}\n`).join('')), size);
-    bench.close();
-    return answers;
-  };
-  const [, report] = said(['allow 0', 'report'], null);
-  return {
-    state: {...report, givens: new Set()},
-    ask: (lines) => said(lines, {rows: report.rows, columns: report.columns})
-  };
-}
-
-// Follows hints to the end: marks what they settle, or of that the colours alone. Gives how many
-// hints it took, and the cells that are not marked right.
-async function followed({state, ask}, marksBackground) {
-  const picture = state.picture.join('');
-  const marks = [...picture].map(() => '?');
-  const hinted = new Set();
-  const left = () => [...marks.keys()].filter(
-      (index) => picture[index] !== '.' && marks[index] !== picture[index]
-  );
-  let hints = 0;
-  for (; left().length && hints < 4 * picture.length; hints++) {
-    const step = await nextStep(state, knownBy(state, marks, hinted), ask);
-    if (!step) break;
-    for (const {index, letter} of step.falls) {
-      assert.equal(letter, picture[index], 'a hint tells what the picture has');
-      if (marksBackground || letter !== '.') marks[index] = letter;
-      if (isBackground(step)) hinted.add(index);
-    }
-  }
-  return {hints, left: left()};
-}
+const skip = needsModule.skip || waits('0.8.0');
 
 const textsIn = (folder) => {
   const at = new URL(`../../${folder}/`, import.meta.url);
@@ -67,25 +32,20 @@ const chance = Array.from(
 );
 const SMALL = 31;
 
-test(
-    'who follows hints, and marks colours alone, solves what lines solve',
-    needsModule,
-    async () => {
-      let solved = 0;
-      for (const [name, text] of
-               [...textsIn('examples'), ...textsIn('measure/pictures'), ...chance]) {
-        const puzzle = puzzleOf(text);
-        const {rows, columns, open} = puzzle.state;
-        if (open || Math.max(rows, columns) > SMALL) continue;
-        for (const marksBackground of [false, true]) {
-          const {hints, left} = await followed(puzzle, marksBackground);
-          assert.deepEqual(left, [], `${name}: ${hints} hints`);
-        }
-        solved++;
-      }
-      assert.ok(solved > 30, `${solved} are solved by lines`);
+test('who follows hints, and marks colours alone, solves what lines solve', {skip}, async () => {
+  let solved = 0;
+  for (const [name, text] of [...textsIn('examples'), ...textsIn('measure/pictures'), ...chance]) {
+    const puzzle = puzzleOf(module, text);
+    const {rows, columns, open} = puzzle.state;
+    if (open || Math.max(rows, columns) > SMALL) continue;
+    for (const marksBackground of [false, true]) {
+      const {hints, left} = await followed(puzzle, marksBackground);
+      assert.deepEqual(left, [], `${name}: ${hints} hints`);
     }
-);
+    solved++;
+  }
+  assert.ok(solved > 30, `${solved} are solved by lines`);
+});
 
 // ---- what a step needs
 
@@ -116,33 +76,39 @@ const settles = (blocks, size, letters, premises, falls) => {
   return falls.every(({at, letter}) => all.every((cells) => cells[at] === letter));
 };
 
-test('the premises of a step settle its cells, and none of them is needless', needsModule, () => {
-  let seen = 0;
-  for (const [name, text] of chance.slice(0, 12)) {
-    const {state, ask} = puzzleOf(text);
-    const letters = [...new Set(`.${state.picture.join('')}`)].join('');
-    const open = [...state.picture.join('')].map(() => '?');
-    for (const step of reasoned(state, open, ask(['path'])[0].looks)) {
-      if (!step.falls.length) continue;
-      const cells = cellsOf(state, step.line);
-      const blocks = blocksOf(state, step.line);
-      const within = (list) => list.map((one) => ({...one, at: cells.indexOf(one.index)}));
-      const [premises, falls] = [within(step.premises()), within(step.falls)];
-      const holds = (some) => settles(blocks, cells.length, letters, some, falls);
-      assert.ok(holds(premises), `${name}: line ${step.line}`);
-      for (const one of premises)
-        assert.ok(!holds(premises.filter((other) => other !== one)), `${name}: ${step.line}`);
-      seen++;
+test(
+    'what a step needs settles its cells, but for those that crossing lines narrowed',
+    {skip},
+    () => {
+      let seen = 0;
+      for (const [name, text] of chance.slice(0, 12)) {
+        const {state, ask} = puzzleOf(module, text);
+        const letters = [...new Set(`.${state.picture.join('')}`)].join('');
+        for (const step of ask(['path'])[0].looks) {
+          if (!step.falls.length) continue;
+          const cells = cellsOf(state, step.line);
+          const within = (list) => list.map((one) => ({...one, at: cells.indexOf(one.index)}));
+          const needs = within(step.needs);
+          const blocks = blocksOf(state, step.line);
+          const narrowed = narrowedBefore(state, step);
+          for (const one of within(step.falls))
+            assert.equal(
+                settles(blocks, cells.length, letters, needs, [one]),
+                !narrowed.includes(one.index),
+                `${name}: ${step.line}`
+            );
+          if (needs.length) seen++;
+        }
+      }
+      assert.ok(seen > 100);
     }
-  }
-  assert.ok(seen > 100);
-});
+);
 
-test('a line stands if the cells that were known before meet its clue', needsModule, () => {
+test('a line stands if the cells that were known before meet its clue', {skip}, () => {
   for (const [name, text] of chance.slice(0, 12)) {
-    const {state, ask} = puzzleOf(text);
+    const {state, ask} = puzzleOf(module, text);
     const known = [...state.picture.join('')].map(() => '?');
-    for (const {line, stands, falls} of reasoned(state, [...known], ask(['path'])[0].looks)) {
+    for (const {line, stands, falls} of ask(['path'])[0].looks) {
       const marks = cellsOf(state, line).map((index) => known[index]);
       assert.equal(stands, isMet(blocksOf(state, line), marks), `${name}: line ${line}`);
       for (const {index, letter} of falls) known[index] = letter;
@@ -161,27 +127,104 @@ const stateOf = (rows, colours = [[255, 255, 255], [0, 0, 0], [255, 0, 0]]) => (
   clues: cluesOf(rows),
   givens: new Set()
 });
-const told = (row, marks) => stepText(stateOf([row]), lookAt(stateOf([row]), [...marks], 0), 'why');
+
+// A step of the only row of a picture: what falls and what it needs are rows, too, with ?
+// elsewhere.
+const placed =
+    (row) => [...row].flatMap((letter, index) => (letter === '?' ? [] : [[index, letter]]));
+const told = (row, falls, needs) => stepText(stateOf([row]), {
+  line: 0,
+  falls: placed(falls).map(([index, letter]) => ({index, letter})),
+  needs: placed(needs).map(([index, letters]) => ({index, letters}))
+});
 
 test('a step tells colours, blocks by their names, and what it needs of its line', () => {
-  for (const [row, marks, wanted] of [
-           ['.bbb.', '?????', 'column 3 is red, as the red 3 covers it wherever it lies'],
-           ['bb.aa', '?????', 'column 2 is red and column 4 is black, by its clue alone'],
+  for (const [row, falls, needs, wanted] of [
            [
+             '.bbb.',
+             '??b??',
+             '?????',
+             'column 3 is red, by overlap: the red 3 covers it wherever it lies'
+           ],
+           ['bb.aa', '?b?a?', '?????', 'column 2 is red and column 4 is black, by its clue alone'],
+           [
+             'aaabb',
              'aaabb',
              '?????',
              'columns 1–3 are black and columns 4–5 are red, as its blocks fill the line'
            ],
-           ['bbb..', '?b???', 'column 3 is red and column 5 is background, since column 2 is red'],
+           [
+             'bbb..',
+             '??b?.',
+             '?b???',
+             'column 3 is red and column 5 is background, from the edge, since column 2 is red'
+           ],
            [
              '...bb',
+             '.??b?',
              '?.???',
              'column 4 is red and column 1 is background, since column 2 is background'
            ],
-           ['a..aa.', 'a?????', 'column 2 is background, since the black 1 is complete'],
-           ['a.a..', 'a????', 'column 2 is background, since the black 1 in column 1 is complete'],
-  ])
-    assert.equal(told(row, marks), `Row 1: ${wanted}.`);
+           ['a..aa.', '?.????', 'a?????', 'column 2 is background, since the black 1 is complete'],
+           [
+             '..bbb.',
+             '???bb.',
+             '?.b???',
+             'columns 4–5 are red and column 6 is background, from the edge, since column 3 is red and column 2 is background'
+           ],
+           [
+             '.bbb..',
+             '.bb???',
+             '???b.?',
+             'columns 2–3 are red and column 1 is background, from the edge, since column 4 is red and column 5 is background'
+           ],
+           [
+             'a.bbb.',
+             '???b??',
+             'a.b???',
+             'column 4 is red, since the black 1 is complete, column 3 is red and column 2 is background'
+           ],
+           [
+             'a.a..',
+             '?.???',
+             'a????',
+             'column 2 is background, since the black 1 in column 1 is complete'
+           ]])
+    assert.equal(told(row, falls, needs), `Row 1: ${wanted}.`);
+});
+
+test('of looks that need known cells alone, the first with a colour is told', () => {
+  const state = stateOf(['a.', 'a.']);
+  const known = [...'a.??'];
+  const look = (line, falls, needs = '????') => ({
+    line,
+    falls: placed(falls).map(([index, letter]) => ({index, letter})),
+    needs: placed(needs).map(([index, letters]) => ({index, letters}))
+  });
+  const nothing = look(0, '????');
+  const [seenColour, seenBackground] = [look(2, '??a?'), look(3, '???.')];
+  const [colour, background] = [look(1, '??a?', '???.'), look(1, '???.', '??a?')];
+  for (const [looks, wanted] of [
+           [[], null],
+           [[nothing], null],
+           [[seenBackground, seenColour], seenColour],
+           [[colour, seenBackground], seenBackground],
+           [[background, colour], colour],
+           [[nothing, background], background]])
+    assert.equal(stepOf(state, known, looks), wanted);
+});
+
+test('a cell in which crossing lines had excluded colours is no cell of the clue alone', () => {
+  const state = stateOf(['ab.', '.ab', '..b']);
+  const step = {line: 3, falls: [{index: 6, letter: '.'}], needs: []};
+  assert.deepEqual(narrowedBefore(state, step), [6]);
+  assert.equal(
+      stepText(state, step),
+      'Column 1: row 3 is background, since crossing lines exclude colours in row 3.'
+  );
+  assert.equal(
+      stepOf(state, [...'?????????'], [step, {...step, line: 2}]), step, 'if none is seen'
+  );
 });
 
 test('background of lines whose clue is met is known, and what a hint told', () => {
@@ -191,13 +234,26 @@ test('background of lines whose clue is met is known, and what a hint told', () 
   assert.equal(knownBy(state, [...'????????????'], new Set([9])).join(''), '??.?....?..?');
 });
 
-test('the hardest step needs most of a line whose blocks do not all stand', needsModule, () => {
-  const {state, ask} = puzzleOf(ppmOf(['.a.', 'aa.', '...']));
-  const open = [...state.picture.join('')].map(() => '?');
-  const walk = new Walk(state, reasoned(state, open, ask(['path'])[0].looks));
+test('the hardest step needs most of a line whose blocks do not all stand', {skip}, () => {
+  const {state, ask} = puzzleOf(module, ppmOf(['.a.', 'aa.', '...']));
+  const walk = new Walk(state, ask(['path'])[0].looks);
   assert.equal(walk.steps.length, 6);
   assert.equal(walk.hardest, 3);
   assert.equal(
       stepText(state, walk.steps[2]), 'Column 2: row 1 is black, since row 3 is background.'
   );
+});
+
+test('a guess is the hardest step; no step without a cell is', () => {
+  const step = (line, count, stands = false) => ({
+    line,
+    round: 1,
+    stands,
+    falls: [{index: 0, letter: 'a'}],
+    needs: Array.from({length: count}, (_, index) => ({index, letters: 'a'}))
+  });
+  const hardestOf = (...steps) => new Walk(stateOf(['aa']), steps).hardest;
+  assert.equal(hardestOf(step(0, 1), step(1, 3, true), step(2, 2), step(0, 2)), 3);
+  assert.equal(hardestOf(step(0, 1), {...step(1, 3), falls: []}), 1);
+  assert.equal(hardestOf(step(0, 5), step(null, 0), step(1, 6)), 2);
 });

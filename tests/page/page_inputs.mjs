@@ -1,8 +1,7 @@
 // The same acts by mouse, by fingers or by keys alone: buttons, fields, menus, tools, strokes over
 // cells. By keys a control is reached with Tab, as a user reaches it, so one that Tab does not
 // reach fails.
-import {pause} from './page_browser.mjs';
-import {SLACK} from './page_trial.mjs';
+import {MOST_WAIT, pause} from './page_browser.mjs';
 
 const ARROWS = {
   down: 'ArrowDown',
@@ -18,7 +17,7 @@ const waysBetween = ([row, col], [toRow, toCol]) =>
      ...times(col - toCol, ARROWS.left)];
 
 /** What a user does by one kind of input: 'mouse', 'touch' or 'keys'. */
-export class Hands {
+export class User {
   constructor(page, trial, input) {
     Object.assign(this, {page, trial, input, byKeys: input === 'keys'});
   }
@@ -45,9 +44,7 @@ export class Hands {
     await this.press(
         closed === 'swatch' ? '#palette [aria-checked="true"]' : `[popovertarget="${closed}"]`
     );
-    await this.page.until(
-        (id) => document.getElementById(id).matches(':popover-open'), 3000 * SLACK, closed
-    );
+    await this.page.until((id) => document.getElementById(id).matches(':popover-open'), closed);
     return closed !== 'swatch';
   }
 
@@ -56,7 +53,6 @@ export class Hands {
     if (await this.opens(selector) && this.byKeys) return this.arrowTo(selector);
     await this.page.until(
         (wanted) => document.querySelector(wanted)?.checkVisibility({visibilityProperty: true}),
-        5000 * SLACK,
         selector
     );
     if (this.input === 'mouse') {
@@ -82,7 +78,7 @@ export class Hands {
       await this.page.press('Control+z');
     else
       await this.press('#quick [data-action="undo"]');
-    await this.page.until((before) => bench.past.length < before, 3000 * SLACK, strokes);
+    await this.page.until((before) => bench.past.length < before, strokes);
     return this.trial.settled();
   }
 
@@ -103,9 +99,7 @@ export class Hands {
       await this.tabTo(selector);
     else
       await this.press(selector);
-    await this.page.until(
-        (wanted) => document.activeElement?.matches(wanted), 3000 * SLACK, selector
-    );
+    await this.page.until((wanted) => document.activeElement?.matches(wanted), selector);
     if (this.input === 'touch') await pause(350);  // a finger's click comes some time behind it
     await this.page.press('Control+a', ...text);
   }
@@ -132,7 +126,6 @@ export class Hands {
     if (!this.byKeys) return this.press(entry);
     await this.page.until(
         (one) => document.getElementById(one).contains(document.activeElement),
-        3000 * SLACK,
         `menu-${place}`
     );  // no hand is quicker
     return this.arrowTo(entry);
@@ -149,7 +142,7 @@ export class Hands {
     else
       await this.press(`[data-tool="${name}"]`);
     return this.page.until(
-        (wanted) => tools.name === wanted, 2000 * SLACK, name
+        (wanted) => tools.name === wanted, name
     );  // a finger's click comes some time behind it
   }
 
@@ -159,7 +152,7 @@ export class Hands {
       await this.page.press(String('.abcdefgh'.indexOf(letter)));
     else if (await this.page.run((wanted) => tools.colour !== wanted, letter))
       await this.press(`#palette [data-letter="${letter}"]`);  // the chosen one would open
-    return this.page.until((wanted) => tools.colour === wanted, 2000 * SLACK, letter);
+    return this.page.until((wanted) => tools.colour === wanted, letter);
   }
 
   /** Goes with the arrows to a cell, rows and columns from 1. */
@@ -237,7 +230,7 @@ export class Hands {
     await act();
     const {backendNodeId} = await Promise.race([
       chooser,
-      pause(8000 * SLACK).then(() => {
+      pause(MOST_WAIT).then(() => {
         throw new Error('no chooser of files opened');
       })
     ]);

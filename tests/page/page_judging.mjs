@@ -9,7 +9,7 @@ import {Judging, judgedText} from '../../page/import/judging.js';
 import {waits} from '../waits.mjs';
 
 const needsAssess = {
-  skip: needsModule.skip || waits('0.7.0')
+  skip: needsModule.skip || waits('0.8.0')
 };
 
 const docOf = (picture, more = {}) =>
@@ -20,9 +20,9 @@ const GUESS = docOf(
     ['a.', '.b'], {colours: [[255, 255, 255], [0, 0, 0], [200, 0, 0]]}
 );  // the rows and columns tell where each colour is
 
-// What is told of documents that are asked for one behind the other; with `isBusy`, each once one
+// What is said of documents that are asked for one behind the other; with `isBusy`, each once one
 // before it is worked on.
-async function told(docs, {seconds = 300, isBusy = false} = {}) {
+async function heardOf(docs, {seconds = 300, isBusy = false} = {}) {
   const heard = [];
   const made = [];
   const start = () => new Client(workers({made})());
@@ -47,17 +47,17 @@ async function told(docs, {seconds = 300, isBusy = false} = {}) {
 }
 
 test('unique with its grade, and not unique', needsAssess, async () => {
-  const unique = (await told([UNIQUE])).at(-1);
+  const unique = (await heardOf([UNIQUE])).at(-1);
   assert.deepEqual([unique.word, unique.open, unique.grade.word], ['unique', 0, 'easy']);
-  assert.deepEqual((await told([PAIR])).at(-1), {word: 'ambiguous', open: 4, grade: null});
-  assert.equal((await told([GUESS])).at(-1).word, 'unique');
+  assert.deepEqual((await heardOf([PAIR])).at(-1), {word: 'ambiguous', open: 4, grade: null});
+  assert.equal((await heardOf([GUESS])).at(-1).word, 'unique');
 });
 
 test('the newest wins, and what it replaces is never told', needsAssess, async () => {
-  const quick = await told([PAIR, PAIR, UNIQUE]);
+  const quick = await heardOf([PAIR, PAIR, UNIQUE]);
   assert.deepEqual(quick.map(({word}) => word), ['works', 'works', 'works', 'unique']);
   // the second comes while the first is worked on
-  const slow = await told([PAIR, UNIQUE], {isBusy: true});
+  const slow = await heardOf([PAIR, UNIQUE], {isBusy: true});
   assert.deepEqual(slow.map(({word}) => word), ['works', 'works', 'unique']);
 });
 
@@ -67,7 +67,7 @@ test('a search that does not end is given up', needsAssess, async () => {
   const noise =
       docOf(Array.from({length: 40}, () => Array.from({length: 40}, () => '.a'[chance(2)]).join(''))
       );
-  const [first] = (await told([noise], {seconds: 0.001})).slice(-1);
+  const [first] = (await heardOf([noise], {seconds: 0.001})).slice(-1);
   assert.ok(['undecided', 'ambiguous'].includes(first.word), first.word);
 });
 

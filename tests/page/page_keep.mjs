@@ -53,7 +53,7 @@ function storageOf(room) {
   };
 }
 
-// A bench with strokes, as far as a record asks for them: the documents before the one at hand, and
+// A bench with strokes, as far as a record asks for them: the documents before the open one, and
 // those that can be made again.
 function benchOf(doc, before = [], after = [], more = {}) {
   const docs = [...before, doc, ...after];
@@ -277,7 +277,7 @@ test('of records that wait the last one counts', async () => {
 
 test(
     'what may rest is made a moment later, with the next that may not, or before its document goes',
-    async () => {
+    async (t) => {
       const made = [];
       const shelf = memoryShelf();
       const keeper = new Keeper(shelf, () => {});
@@ -294,13 +294,10 @@ test(
           [[2], true, 2],
           'of quick strokes the last one counts'
       );
+      t.mock.timers.enable({apis: ['setTimeout']});  // a rest does not end by itself
       note(3, true);
-      await Promise.race([
-        note(4),
-        new Promise((go) => {
-          setTimeout(go, 20);
-        })
-      ]);
+      await note(4);
+      t.mock.timers.reset();
       assert.deepEqual(
           [made, keeper.isDone], [[2, 4], true], 'one that may not rest ends the rest'
       );
@@ -736,7 +733,7 @@ test(
       requests[0].result.onversionchange();
       globalThis.setTimeout = (f, ms) => plain(f, ms > 5000 ? 5 : ms);
       const put = keeper.put(record('b', 2));
-      await Promise.race([put, pause(200)]);
+      await put;
       globalThis.setTimeout = plain;
       assert.deepEqual(said, [['failed', 'late']]);
       await Promise.all(
@@ -759,12 +756,12 @@ test(
 
 // The browser's locks, as far as a claim asks for them.
 function locks() {
-  const held = new Set();
+  const locked = new Set();
   return {
     request(name, options, use) {
-      if (held.has(name)) return Promise.resolve(use(null));
-      held.add(name);
-      return Promise.resolve(use({name})).finally(() => held.delete(name));
+      if (locked.has(name)) return Promise.resolve(use(null));
+      locked.add(name);
+      return Promise.resolve(use({name})).finally(() => locked.delete(name));
     }
   };
 }
@@ -808,7 +805,7 @@ test('and by a channel where there are no locks', async () => {
   again();
 });
 
-// ---- the picture at hand
+// ---- the open picture
 
 const loaded = {...keep};
 
@@ -1105,7 +1102,7 @@ test(
         }
       };
       await exportAll();
-      assert.match(elements.said.text, /storage refuses it/);
+      assert.match(elements.said.text, /refuses to store it/);
     }
 );
 
@@ -1131,23 +1128,23 @@ test(
 test('what is done to a picture that is gone, or is refused, is told', async () => {
   await pageOf(['a']);
   const line = saidLine();
-  const told = async (act) => {
+  const saidAfter = async (act) => {
     line.text = '';
     await keep.tried(act);
     return line.text;
   };
   const {keeper} = keep;
   assert.equal(
-      await told(() => keeper.duplicate('b', 'copy')),
+      await saidAfter(() => keeper.duplicate('b', 'copy')),
       'This picture of the library is damaged or gone.'
   );
   const gone = await keep.drop('b');
   assert.equal(
-      await told(() => keeper.restore(gone)), 'This picture of the library is damaged or gone.'
+      await saidAfter(() => keeper.restore(gone)), 'This picture of the library is damaged or gone.'
   );
   for (const [fault, text] of [
            [new Full('x'), 'The browser\u2019s storage is full.'],
-           [new Error('x'), 'The browser\u2019s storage refuses it.']]) {
+           [new Error('x'), 'The browser refuses to store it.']]) {
     keeper.shelf = {
       ...keeper.shelf,
       change: async () => {
@@ -1161,7 +1158,7 @@ test('what is done to a picture that is gone, or is refused, is told', async () 
              of [() => keep.drop('a'),
                 () => keeper.duplicate('a', 'copy'),
                 () => keep.rename('a', 'b')])
-      assert.equal(await told(act), text);
+      assert.equal(await saidAfter(act), text);
   }
   assert.deepEqual(await titles(), [['a', 'a', '']]);
 });

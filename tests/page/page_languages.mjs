@@ -2,8 +2,8 @@
 // another language with all that was done, and what is written from right to left.
 import assert from 'node:assert/strict';
 import {readFileSync} from 'node:fs';
-import {clean, examples, fresh, serve} from './page_hands.mjs';
-import {SLACK, Trial, ppmOf} from './page_trial.mjs';
+import {clean, examples, fresh, serve} from './page_common.mjs';
+import {Trial, ppmOf} from './page_trial.mjs';
 
 const KEPT = 'nonobench-language';
 const MIRRORED = 'en-x-mirrored';
@@ -77,7 +77,7 @@ const MISLAID = () => {
 const ENGLISH = () => {
   const word =
       /\b(the|and|with|of|cells?|colou?rs?|pictures?|delete|remove|rows?|columns?|undo|redo|shows?|search|open|save|print|close)\b/i;
-  const told = [...document.querySelectorAll('body *')].flatMap(
+  const texts = [...document.querySelectorAll('body *')].flatMap(
       (one) =>
           [one.getAttribute('aria-label'),
            one.title,
@@ -89,12 +89,12 @@ const ENGLISH = () => {
                .map((node) => node.textContent)]
   );
   return [...new Set(
-      told.filter((text) => text && word.test(text.replace(/„nonobench [^“]*“/g, '')))
+      texts.filter((text) => text && word.test(text.replace(/„nonobench [^“]*“/g, '')))
   )];
 };
 
 const opened = (page) =>
-    page.until(() => window.bench?.state && !document.getElementById('work').hidden, 5000 * SLACK);
+    page.until(() => window.bench?.state && !document.getElementById('work').hidden);
 const closed = (page) => page.run(() => new Promise((go) => {
                                     const dialog = document.querySelector('dialog[open]');
                                     dialog.addEventListener('close', () => setTimeout(go));
@@ -111,7 +111,7 @@ async function overThePage(page, where, hears = false) {
   }
   for (const id of ['guide', 'keys', 'resize', 'about', 'print', 'paste', 'vision', 'share']) {
     await page.run((one) => runAction(one), id);
-    await page.until(() => document.querySelector('dialog[open]'), 3000 * SLACK);
+    await page.until(() => document.querySelector('dialog[open]'));
     assert.deepEqual(await page.run(MISLAID), [], `${where}, the dialog ${id}`);
     if (hears) assert.deepEqual(await page.run(ENGLISH), [], `${where}, the dialog ${id}`);
     await closed(page);
@@ -121,18 +121,17 @@ async function overThePage(page, where, hears = false) {
 // ---- German
 
 // The examples are read once the library is listed.
-const isListed = (page) =>
-    page.until(() => 'listed' in document.getElementById('start').dataset, 5000 * SLACK);
+const isListed = (page) => page.until(() => 'listed' in document.getElementById('start').dataset);
 
 /**
  * German is chosen in the menu View; then a walk in it, in which nothing is cut and no English is
  * left.
  */
-export async function germanPoint(hands, {page, trial}) {
-  await hands.press('#examples [data-name="heart"]');
+export async function germanPoint(user, {page, trial}) {
+  await user.press('#examples [data-name="heart"]');
   await opened(page);
   const loaded = new Promise((go) => page.wakes.push(go));
-  await hands.menu('view', 'language-de');
+  await user.menu('view', 'language-de');
   await loaded;
   await opened(page);
   assert.deepEqual(
@@ -142,25 +141,25 @@ export async function germanPoint(hands, {page, trial}) {
   await trial.judged();
   assert.equal(await trial.text('#verdict'), 'Eindeutig');
   const before = (await trial.picture())[2][2];
-  await hands.colour(before === '.' ? 'a' : '.');
-  await hands.stroke([3, 3]);
+  await user.colour(before === '.' ? 'a' : '.');
+  await user.stroke([3, 3]);
   assert.notEqual((await trial.picture())[2][2], before, 'a cell is painted');
-  await hands.undo();
+  await user.undo();
   assert.equal((await trial.picture())[2][2], before, 'and taken back');
   await trial.open(ppmOf(['a...', '.a..', '..a.', '...a']));
   assert.equal(await trial.judged(), 'ambiguous');
   assert.equal(await trial.text('#verdict'), 'Mehrdeutig');
   if (await page.run(() => document.getElementById('verdict-open').checkVisibility()))
-    await hands.press('#verdict-open');
-  await hands.press('#verdict-do [data-action="fix"]');
+    await user.press('#verdict-open');
+  await user.press('#verdict-do [data-action="fix"]');
   assert.match(await trial.text('#fix'), /Neu suchen/);
   assert.deepEqual(await page.run(MISLAID), [], 'Fix it');
-  await hands.menu('file', 'about');
-  await page.until(() => document.querySelector('dialog[open]'), 3000 * SLACK);
+  await user.menu('file', 'about');
+  await page.until(() => document.querySelector('dialog[open]'));
   assert.match(await trial.text('dialog[open]'), /Titel, Autor und Texte/);
   await closed(page);
   await overThePage(page, 'German', true);
-  await hands.menu('file', 'new');
+  await user.menu('file', 'new');
   await isListed(page);
   assert.match(await trial.text('#start'), /Beispiele.*Ballon.*Herz/);
   assert.deepEqual(
@@ -177,25 +176,24 @@ export async function germanImport({trial, page}) {
   await page.run((bytes) => {
     takeFile(new File([Uint8Array.from(bytes)], 'duck.png'));
   }, [...readFileSync(new URL('duck.png', examples))]);
-  await page.until(() => document.querySelector('#import-ink')?.value, 8000 * SLACK);
+  await page.until(() => document.querySelector('#import-ink')?.value);
   assert.match(
       await page.run(() => document.getElementById('import-ink').value),
       /^Weiß #ffffff, 50,0\s%, Hintergrund$/
   );
   await page.until(
-      () => /Mehrdeutig, 6 Felder/.test(document.getElementById('import-verdict').textContent),
-      20000 * SLACK
+      () => /Mehrdeutig, 6 Felder/.test(document.getElementById('import-verdict').textContent)
   );
   assert.deepEqual([await page.run(ENGLISH), await page.run(MISLAID)], [[], []]);
   await page.press('Escape');
 }
 
 /** French, which has three forms for numbers, is laid out as well. */
-export async function frenchPoint(hands, {page, trial}) {
-  await hands.press('#examples [data-name="heart"]');
+export async function frenchPoint(user, {page, trial}) {
+  await user.press('#examples [data-name="heart"]');
   await opened(page);
   const loaded = new Promise((go) => page.wakes.push(go));
-  await hands.menu('view', 'language-fr');
+  await user.menu('view', 'language-fr');
   await loaded;
   await opened(page);
   assert.deepEqual(
@@ -206,12 +204,12 @@ export async function frenchPoint(hands, {page, trial}) {
   assert.equal(await trial.judged(), 'ambiguous');
   assert.equal(await trial.text('#verdict'), 'Ambiguë');
   if (await page.run(() => document.getElementById('verdict-open').checkVisibility()))
-    await hands.press('#verdict-open');
-  await hands.press('#verdict-do [data-action="fix"]');
+    await user.press('#verdict-open');
+  await user.press('#verdict-do [data-action="fix"]');
   assert.match(await trial.text('#fix'), /Chercher de nouveau/);
   assert.deepEqual(await page.run(MISLAID), [], 'Fix it');
   await overThePage(page, 'French');
-  await hands.menu('file', 'new');
+  await user.menu('file', 'new');
   await isListed(page);
   assert.match(await trial.text('#start'), /Exemples.*cœur/);
   assert.deepEqual(await page.run(MISLAID), [], 'the start screen');
@@ -261,7 +259,7 @@ export async function languageKeepsAll({trial, page}) {
 
 export async function languageKeepsABlankPicture({trial, page}) {
   await page.click('#new-go');
-  await page.until(() => bench.state, 3000 * SLACK);
+  await page.until(() => bench.state);
   await page.run(() => keep.ready().then(() => true));
   const size = await page.run(() => [bench.state.rows, bench.state.columns]);
   const loaded = new Promise((go) => page.wakes.push(go));
@@ -269,7 +267,7 @@ export async function languageKeepsABlankPicture({trial, page}) {
     runAction('language-de');
   });
   await loaded;
-  await page.until(() => window.bench?.state, 5000 * SLACK);
+  await page.until(() => window.bench?.state);
   assert.deepEqual(await page.run(() => [bench.state.rows, bench.state.columns]), size);
   assert.equal(await trial.text('#menus > button'), 'Datei');
 }
@@ -286,9 +284,7 @@ export async function languageWaitsWhereNothingIsKept({trial, page}) {
   await page.run(() => {
     runAction('language-de');
   });
-  await page.until(
-      () => /reload the page/.test(document.getElementById('said').textContent), 3000 * SLACK
-  );
+  await page.until(() => /reload the page/.test(document.getElementById('said').textContent));
   assert.deepEqual(await trial.picture(), painted, 'the page stays as it is');
   assert.equal(await page.run(() => document.documentElement.lang), 'en');
   await page.run(() => {
@@ -329,7 +325,7 @@ export async function languageKeepsTheFile({browser, folder}) {
       ['a.', '.a']
   );
   await page.press('Control+s');
-  await page.until(() => bench.isSaved && saving.handle?.name === 'mine.ppm', 5000 * SLACK);
+  await page.until(() => bench.isSaved && saving.handle?.name === 'mine.ppm');
   const before = await written();
   const loaded = new Promise((go) => page.wakes.push(go));
   await page.run(() => {
@@ -337,10 +333,10 @@ export async function languageKeepsTheFile({browser, folder}) {
   });
   await loaded;
   await opened(page);
-  await page.until(() => saving.handle !== null, 3000 * SLACK);
+  await page.until(() => saving.handle !== null);
   await trial.drag([[1, 2]]);
   await page.press('Control+s');
-  await page.until(() => bench.isSaved, 5000 * SLACK);
+  await page.until(() => bench.isSaved);
   assert.deepEqual(
       await page.run(() => [window.asked ?? false, saving.form]),
       [false, 'ppm'],
@@ -355,7 +351,7 @@ export async function languageKeepsTheFile({browser, folder}) {
 // ---- from right to left
 
 /** What lays things out is mirrored; grids are read from the left. */
-export async function mirroredPoint(hands, {page, trial}) {
+export async function mirroredPoint(user, {page, trial}) {
   await chooseLanguage(trial, MIRRORED);
   assert.equal(await page.run(() => document.documentElement.dir), 'rtl');
   assert.deepEqual(await page.run(MISLAID), [], 'the start screen');
@@ -369,8 +365,8 @@ export async function mirroredPoint(hands, {page, trial}) {
   const [[x1], [x2]] = [await trial.cell(2, 2), await trial.cell(2, 3)];
   assert.ok(x1 < x2);
   const [, from] = await trial.picture();
-  await hands.colour(from[1] === '.' ? 'a' : '.');
-  await hands.stroke([2, 2]);
+  await user.colour(from[1] === '.' ? 'a' : '.');
+  await user.stroke([2, 2]);
   const [, row] = await trial.picture();
   assert.ok(
       row[0] === from[0] && row[1] !== from[1] && row.slice(2) === from.slice(2),
@@ -386,7 +382,7 @@ export async function mirroredPoint(hands, {page, trial}) {
       await page.run(() => [cursor.row, cursor.col]), [0, 1], 'an arrow goes to the right'
   );
   if (await page.run(() => document.getElementById('verdict-open').checkVisibility()))
-    await hands.press('#verdict-open');
+    await user.press('#verdict-open');
   await page.run(() => runAction('fix'));
   assert.deepEqual(await page.run(MISLAID), [], 'the bench');
   assert.equal(

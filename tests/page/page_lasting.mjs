@@ -2,17 +2,28 @@
 // after a choice, panels and pictures that stay under the pointer, certificates, warnings, and
 // marks that are seen. Each is a test of the runner tests/page/page_test.mjs.
 import assert from 'node:assert/strict';
-import {act, clean, downloaded, drop, fresh, goOn, isKept, isOpen, menu, said} from './page_hands.mjs';
-import {SLACK, noise, ppmOf} from './page_trial.mjs';
+import {phrase} from '../../page/texts/phrase.js';
+import {
+  act,
+  clean,
+  downloaded,
+  drop,
+  fresh,
+  goOn,
+  isKept,
+  isOpen,
+  menu,
+  said
+} from './page_common.mjs';
+import {noise, ppmOf} from './page_trial.mjs';
 
 const MIXED = ['..aa....bb', '.abba..b.b', 'a.bba.bb..', '..aaa.b...', '...a..cc..'];
 const cards = (page) => page.run(
     async () =>
         (await keep.keeper.cards()).map(({name, isSaved, verdict}) => ({name, isSaved, verdict}))
 );
-const saysThat = (page, text) => page.until(
-    (wanted) => document.getElementById('said').textContent.includes(wanted), 8000 * SLACK, text
-);
+const saysThat = (page, text) =>
+    page.until((wanted) => document.getElementById('said').textContent.includes(wanted), text);
 
 /**
  * Thirty pictures that are in no file stay, are found, renamed, copied, deleted and brought back,
@@ -31,11 +42,10 @@ export async function library({browser, url, folder}) {
   }
   assert.equal((await cards(page)).length, 30, 'nothing goes that is in no file');
   await page.run(() => runAction('new'));
-  await page.until(() => document.querySelectorAll('#library .kept').length === 30, 8000 * SLACK);
+  await page.until(() => document.querySelectorAll('#library .kept').length === 30);
   await page.until(
       () => /30 pictures in this browser, .* room for/.test(document.getElementById('room'
-      ).textContent),
-      5000 * SLACK
+      ).textContent)
   );
   await page.click('#library-search');
   await page.press(...'ure 7');
@@ -56,19 +66,17 @@ export async function library({browser, url, folder}) {
   };
   await more('Rename …');
   await page.press('Control+a', ...'ure 7 tree', 'Enter');
-  await page.until(
-      () => document.querySelector('#library b')?.textContent === 'ure 7 tree', 5000 * SLACK
-  );
+  await page.until(() => document.querySelector('#library b')?.textContent === 'ure 7 tree');
   await more('Duplicate');
-  await page.until(() => document.querySelectorAll('#library .kept').length === 2, 5000 * SLACK);
+  await page.until(() => document.querySelectorAll('#library .kept').length === 2);
   await more('Delete');
-  await page.until(() => document.querySelectorAll('#library .kept').length === 1, 5000 * SLACK);
+  await page.until(() => document.querySelectorAll('#library .kept').length === 1);
   assert.equal((await cards(page)).length, 30);
   await page.click('#said button');
-  await page.until(() => document.querySelectorAll('#library .kept').length === 2, 5000 * SLACK);
+  await page.until(() => document.querySelectorAll('#library .kept').length === 2);
   await page.click('#library-export');
   const {content} = await downloaded(page, own, '.zip');
-  await page.run(() => keep.end());  // the picture at hand would be kept again once it is graded
+  await page.run(() => keep.end());  // the open picture would be kept again once it is graded
   await clean(page);
   await drop(page, own, 'all.zip', content);
   await saysThat(page, '31 pictures added to the library');
@@ -100,7 +108,7 @@ export async function makesRoom({browser, url, folder}) {
   await saysThat(page, 'storage is full');
   assert.equal((await cards(page)).length, 2);
   await page.click('#said button');
-  await page.until(() => document.querySelector('dialog[open] input[type=checkbox]'), 3000 * SLACK);
+  await page.until(() => document.querySelector('dialog[open] input[type=checkbox]'));
   await page.click('dialog input[type=checkbox]');
   assert.match(
       await trial.text('dialog'),
@@ -111,7 +119,7 @@ export async function makesRoom({browser, url, folder}) {
   });
   await page.click('dialog button.main');
   await isKept(page);
-  await page.until(async () => (await keep.keeper.cards()).length === 1, 3000 * SLACK);
+  await page.until(async () => (await keep.keeper.cards()).length === 1);
   assert.equal((await cards(page))[0].name, 'now');
   await page.close();
 }
@@ -127,9 +135,9 @@ export async function textsAreKept({browser, url, folder}) {
   await isOpen(page);
   assert.equal(await page.run(() => bench.isSaved), true);
   await menu(page, 'about');
-  await page.until(() => document.querySelector('dialog[open] input'), 3000 * SLACK);
+  await page.until(() => document.querySelector('dialog[open] input'));
   await page.press(...'Tree', 'Tab', ...'Jan', 'Enter');
-  await page.until(() => bench.state.about.title === 'Tree', 3000 * SLACK);
+  await page.until(() => bench.state.about.title === 'Tree');
   assert.deepEqual(
       await page.run(() => [bench.isSaved, bench.state.about]),
       [false, {title: 'Tree', author: 'Jan'}]
@@ -137,12 +145,12 @@ export async function textsAreKept({browser, url, folder}) {
   await page.press('b', '2');  // the bucket, and the colour b
   await page.click('#ink-name');
   await page.press(...'leaf', 'Enter');
-  await page.until(() => bench.state.inks[2]?.name === 'leaf', 3000 * SLACK);
+  await page.until(() => bench.state.inks[2]?.name === 'leaf');
   await page.press('Escape', 'Escape');
   await page.run(() => document.activeElement.blur());
   await page.press('k');
   await trial.drag([[1, 1], [1, 3]]);
-  await page.until(() => bench.state.locks.size === 3, 3000 * SLACK);
+  await page.until(() => bench.state.locks.size === 3);
   await isKept(page);
   await trial.load();
   await goOn(page);
@@ -174,13 +182,11 @@ export async function authorProposed({browser, url, folder}) {
         ppmOf([`.${'a'.repeat(++count)}`])
     );
     await menu(page, 'about');
-    await page.until(() => document.querySelector('dialog[open] input'), 3000 * SLACK);
+    await page.until(() => document.querySelector('dialog[open] input'));
     const {value} =
         await page.run(() => ({value: document.querySelectorAll('dialog[open] input')[1].value}));
     await page.press(...keys, 'Enter');
-    await page.until(
-        () => !document.querySelector('dialog[open]') && !bench.queue.length, 3000 * SLACK
-    );
+    await page.until(() => !document.querySelector('dialog[open]') && !bench.queue.length);
     return [value, await page.run(() => bench.state.about)];
   };
   assert.deepEqual(await about('Tab', ...'Jan'), ['', {author: 'Jan'}]);
@@ -209,9 +215,7 @@ export async function keysAfterChoice({trial, page}) {
   assert.equal(await page.run(() => tools.name), 'line', 'a letter after a choice by the mouse');
   await page.press('Escape');
   await page.click('#menus [popovertarget="menu-edit"]');
-  await page.until(
-      () => document.querySelector('#menu-edit:popover-open [data-action="cut"]'), 3000 * SLACK
-  );
+  await page.until(() => document.querySelector('#menu-edit:popover-open [data-action="cut"]'));
   await page.click('#menu-edit [data-action="redo"][aria-disabled], #menu-edit [data-action="cut"]'
   );
   await page.press('Escape');
@@ -232,8 +236,8 @@ export async function panelsStay({trial, page}) {
   const places = () => page.run(
       () => [...document.querySelectorAll(
                  '#audit, #colours, #cell, #lines, #details, #details :is(button, select)'
-             )].map((one) => one.getBoundingClientRect().top)
-                .join()
+             )].map((one) => `${one.id || one.dataset.action} ${one.getBoundingClientRect().top}`)
+                .join('\n')
   );
   const first = () =>
       page.run(() => document.querySelector('#palette button').getBoundingClientRect().top);
@@ -252,14 +256,13 @@ export async function panelsStay({trial, page}) {
   }
   await page.run(() => bench.stroke(['fill 1 1 5 10 a', 'paint 3 3 b']));
   await page.until(
-      () => !['–', ''].includes(document.getElementById('grade')?.textContent ?? 'no grade'),
-      15000 * SLACK
-  );  // it comes once the hand rests
+      () => !['–', ''].includes(document.getElementById('grade')?.textContent ?? 'no grade')
+  );  // it comes once the user rests
   assert.equal(await places(), before, 'graded');
   for (let count = 5; count <= 13; count++) {
     await page.click('[data-action="colour-add"]');
     await trial.settled();
-    await page.until((wanted) => bench.state.colours.length === wanted, 3000 * SLACK, count);
+    await page.until((wanted) => bench.state.colours.length === wanted, count);
     assert.equal(await first(), palette, `${count} colours`);
   }
 }
@@ -297,40 +300,38 @@ const placeOfMenus = (page) => page.run(
  * Strokes, what is said of them, and whether a file has them move no cell and no menu; clues that
  * have no room are told, and a press there shows more.
  */
-export async function stillPoint(hands) {
-  const {page, trial} = hands;
-  await hands.press('#new-go');
+export async function stillPoint(user) {
+  const {page, trial} = user;
+  await user.press('#new-go');
   await isOpen(page);
   const [before, menus] = [await placeOfGrid(page), await placeOfMenus(page)];
-  for (const row of [2, 4, 6]) await hands.stroke([row, 3]);
+  for (const row of [2, 4, 6]) await user.stroke([row, 3]);
   await page.run(
       () => bench.stroke(Array.from({length: 10}, (_, at) => `paint 8 ${2 * at + 1} a`)
       ).then(() => true)
   );
-  await hands.tool('bucket');
-  await hands.stroke([1, 1]);
+  await user.tool('bucket');
+  await user.stroke([1, 1]);
   await isKept(page);
   assert.equal(await placeOfGrid(page), before, 'nothing moves');
   assert.match(await trial.text('#title'), /not in a file/);
   assert.equal(await placeOfMenus(page), menus, 'kept');
   await page.press('Control+s');
-  await page.until(
-      () => !/not in a file/.test(document.getElementById('title').textContent), 5000 * SLACK
-  );
+  await page.until(() => !/not in a file/.test(document.getElementById('title').textContent));
   assert.equal(await placeOfMenus(page), menus, 'saved');
   assert.equal(await isCut(page), false, 'ten blocks stand whole');
   const side = await page.run(() => innerWidth) > 1500 ?
       120 :
       60;  // a large window has room for all clues of 60 lines
   await trial.open(ppmOf(noise(side, side, '.abc')), 'long clues');
-  await page.until(() => !document.getElementById('cut').hidden, 3000 * SLACK);
+  await page.until(() => !document.getElementById('cut').hidden);
   assert.match(await trial.text('#cut'), /^([1-9][0-9]* clues cut off|Zoom in for numbers)$/);
   const {cell} = await page.run(() => ({cell: sheet.geometry.cell}));
-  await hands.press('#cut');
-  await page.until((side) => sheet.geometry.cell > side, 3000 * SLACK, cell);
+  await user.press('#cut');
+  await page.until((side) => sheet.geometry.cell > side, cell);
 }
 
-/** A certificate that is dropped is checked against the picture at hand. */
+/** A certificate that is dropped is checked against the open picture. */
 export async function certificateDropped({browser, url, folder}) {
   const {page, trial, own} = await fresh(browser, url, folder, 'certificate');
   await page.run((text) => takeFile(new File([text], 'cross.ppm')), ppmOf(['.a.', 'aaa', '.a.']));
@@ -400,7 +401,7 @@ const LEARNT = [
 
 /**
  * Where a certificate with lemmas is shorter it is saved; one that is dropped is checked against
- * the picture at hand.
+ * the open picture.
  */
 export async function lemmasSavedAndDropped({browser, url, folder}) {
   const {page, trial, own} = await fresh(browser, url, folder, 'lemmas');
@@ -484,8 +485,7 @@ export async function whyNames({trial, page}) {
   await trial.drag([asked]);
   await page.until(
       (wanted) => document.querySelector('#why h3')?.textContent.startsWith(wanted),
-      3000 * SLACK,
-      `Row ${asked[0]}, column ${asked[1]}`
+      phrase('view.rowColumnWhyNot', {row: asked[0], col: asked[1]})
   );
   assert.doesNotMatch(await trial.text('#why'), /\b[c-o]\b/);
   const names = await page.run(
@@ -535,11 +535,9 @@ export async function givensAndColours({browser, url, folder}) {
   await page.run(() => {
     runAction('export-empty');
   });
-  await page.until(
-      () => /cannot tell the clues apart/.test(document.body.textContent), 3000 * SLACK
-  );
+  await page.until(() => /cannot tell the clues apart/.test(document.body.textContent));
   await page.press('Control+p');
-  await page.until(() => document.querySelector('dialog[open]'), 3000 * SLACK);
+  await page.until(() => document.querySelector('dialog[open]'));
   assert.match(await trial.text('dialog'), /Too similar.* So the sheet has letters/);
   assert.deepEqual(
       await page.run(
@@ -550,7 +548,7 @@ export async function givensAndColours({browser, url, folder}) {
       ['letters', true]
   );
   await page.press('Enter');
-  await page.until(() => document.querySelectorAll('.printed').length === 2, 5000 * SLACK);
+  await page.until(() => document.querySelectorAll('.printed').length === 2);
   assert.deepEqual(
       await page.run(
           () => [...document.querySelectorAll('.printed')].map(
@@ -580,7 +578,7 @@ export async function playInTheDark({browser, url, folder}) {
     document.documentElement.dataset.scheme = 'dark';
   });
   await page.run(() => runAction('play'));
-  await page.until(() => document.getElementById('play-field'), 3000 * SLACK);
+  await page.until(() => document.getElementById('play-field'));
   assert.deepEqual(
       await page.run(
           () =>

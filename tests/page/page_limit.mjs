@@ -75,7 +75,7 @@ async function readyAfter(browser, address) {
     await page.send('Performance.enable', {timeDomain: 'threadTicks'});
     await page.before(NOTE_READY);
     await page.goto(address);
-    await page.until(() => window.isReady, 60000);
+    await page.until(() => window.isReady);
     const {metrics} = await page.send('Performance.getMetrics');
     return metrics.find(({name}) => name === 'TaskDuration').value * 1000;
   } finally {
@@ -113,9 +113,9 @@ test('the picture has the most room, and nothing overlaps', {skip: missing}, asy
     for (const [width, height] of WINDOWS) {
       const page = await browser.page({width, height});
       await page.goto(pathToFileURL(PAGE).href);
-      await page.until(() => document.querySelector('#examples button') !== null, 60000);
+      await page.until(() => document.querySelector('#examples button') !== null);
       await page.run(() => document.querySelector('#examples button').click());
-      await page.until(() => !document.body.classList.contains('starting'), 60000);
+      await page.until(() => !document.body.classList.contains('starting'));
       const [tools, stage, panel] = await page.run(
           () => ['#tools', '#stage', '#work > aside'].map(
               (one) => document.querySelector(one).getBoundingClientRect().toJSON()

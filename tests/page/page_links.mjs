@@ -36,11 +36,11 @@ test('a link holds the whole document', async () => {
       doc,
       {givens: new Set([3, 17]), locks: new Set([5]), about: {title: 'Ente & Möwe', author: '“A”'}}
   );
-  for (const way of ['play', 'edit']) {
-    const fragment = await fragmentOf(doc, way);
-    assert.match(fragment, new RegExp(`^#${way}=[A-Za-z0-9_-]+$`));
+  for (const kind of ['play', 'edit']) {
+    const fragment = await fragmentOf(doc, kind);
+    assert.match(fragment, new RegExp(`^#${kind}=[A-Za-z0-9_-]+$`));
     const read = await readFragment(fragment);
-    assert.equal(read.way, way);
+    assert.equal(read.kind, kind);
     assert.deepEqual(read.doc.picture, doc.picture);
     assert.deepEqual(read.doc.colours, doc.colours);
     assert.deepEqual([...read.doc.givens], [3, 17]);
@@ -53,8 +53,8 @@ test('a link holds the whole document', async () => {
 test('a link has no clues, not even of a picture that is open', async () => {
   const doc = noise(5, 6, 3, 9);
   const clues = {rows: Array(5).fill([{length: 1, letter: 'a'}]), columns: Array(6).fill([])};
-  for (const way of ['play', 'edit'])
-    assert.equal(await fragmentOf({...doc, clues}, way), await fragmentOf(doc, way));
+  for (const kind of ['play', 'edit'])
+    assert.equal(await fragmentOf({...doc, clues}, kind), await fragmentOf(doc, kind));
 });
 
 test('the smallest and the largest pictures', async () => {

@@ -3,7 +3,7 @@
 import assert from 'node:assert/strict';
 import {readFileSync} from 'node:fs';
 import {pause} from './page_browser.mjs';
-import {SIZES, SLACK, Trial, noise, ppmOf} from './page_trial.mjs';
+import {SIZES, Trial, noise, ppmOf} from './page_trial.mjs';
 
 // Controls without a name, texts whose contrast with what lies behind them is too low, roles
 // outside what they belong to, references to nothing, and what takes the focus though it is hidden.
@@ -54,9 +54,9 @@ const COMPLAINTS = () => {
       texts
           .map((one) => {
             const ground = behind(one);
-            const [a, b] = [light(inkOf(getComputedStyle(one).color, ground)), light(ground)].sort(
-                (x, y) => y - x
-            );
+            const {color, fill} = getComputedStyle(one);
+            const ink = one instanceof SVGElement ? fill : color;
+            const [a, b] = [light(inkOf(ink, ground)), light(ground)].sort((x, y) => y - x);
             return [(a + 0.05) / (b + 0.05), one];
           })
           .filter(([ratio]) => ratio < 4.5)
@@ -102,7 +102,7 @@ async function overThePage(trial, page, where) {
   }
   for (const id of OVER) {
     await page.run((one) => runAction(one), id);
-    await page.until(() => document.querySelector('dialog[open]'), 3000 * SLACK);
+    await page.until(() => document.querySelector('dialog[open]'));
     assert.deepEqual(await page.run(COMPLAINTS), [], `${where}, the dialog ${id}`);
     await page.run(() => new Promise((go) => {
                      const dialog = document.querySelector('dialog[open]');
@@ -113,7 +113,7 @@ async function overThePage(trial, page, where) {
   await page.run((bytes) => {
     takeFile(new File([Uint8Array.from(bytes)], 'duck.png'));
   }, [...readFileSync(new URL('../../examples/duck.png', import.meta.url))]);
-  await page.until(() => document.querySelector('#import-facts')?.textContent, 5000 * SLACK);
+  await page.until(() => document.querySelector('#import-facts')?.textContent);
   assert.deepEqual(await page.run(COMPLAINTS), [], `${where}, a picture into a puzzle`);
   await page.run(() => new Promise((go) => {
                    const dialog = document.querySelector('dialog[open]');
@@ -180,7 +180,7 @@ export async function largePictures({browser, url, folder}) {
     const trial = await Trial.start(browser, url, folder, size);
     const {page} = trial;
     await trial.open(ppmOf(noise(120, 120, '...aabc')), 'large');
-    await trial.settled(20000);
+    await trial.settled();
     const fits = () => page.run(() => {
       const {geometry: at} = sheet;
       return [at.x(at.columns) <= at.width && at.y(at.rows) <= at.height, at.cell / at.scale];
@@ -193,9 +193,7 @@ export async function largePictures({browser, url, folder}) {
           'Input.dispatchMouseEvent',
           {type: 'mouseWheel', x: middle[0], y: middle[1], deltaX: 0, deltaY: -120}
       );
-    await page.until(
-        (least) => sheet.geometry.cell / sheet.geometry.scale > least, 3000 * SLACK, side + 2
-    );
+    await page.until((least) => sheet.geometry.cell / sheet.geometry.scale > least, side + 2);
     const before = await page.run(() => [sheet.geometry.panX, sheet.geometry.panY]);
     await page.drag([middle, [middle[0] - 60, middle[1] - 40]], {button: 'middle'});
     assert.notDeepEqual(
@@ -229,7 +227,7 @@ export async function nothingIsSent({browser, url, folder}) {
     runAction('fix');
     document.getElementById('fix-paint').click();
   });
-  await page.until(() => !searches.running, 30000 * SLACK);
+  await page.until(() => !searches.running);
   assert.deepEqual(asked.filter((one) => !/^(file|blob|data):/.test(one)), []);
   assert.ok(asked.some((one) => one.startsWith('file:')), 'requests are seen');
   assert.equal(

@@ -1,7 +1,7 @@
 // Tests in the browser that nothing is lost where a worker ends in the middle of a drag or the page
 // is loaded again, and of the way in from the start screen by mouse, finger and keys.
 import assert from 'node:assert/strict';
-import {SIZES, SLACK, Trial, ppmOf} from './page_trial.mjs';
+import {SIZES, Trial, ppmOf} from './page_trial.mjs';
 
 const SMALL = ['.....', '.aaa.', '.aba.', '.aaa.', '.....'];
 
@@ -18,7 +18,7 @@ export async function beginning({browser, url, folder}) {
       await page.tap('#new-go');
     else
       await page.click('#new-go');
-    await page.until(() => bench.state !== null, 3000 * SLACK);
+    await page.until(() => bench.state !== null);
     const at = await trial.cell(3, 4);
     if (size.touch)
       await page.touch([at]);
@@ -44,10 +44,10 @@ export async function beginning({browser, url, folder}) {
 export async function beginningByKeys({trial, page}) {
   await page.run(() => document.getElementById('new-columns').focus());
   await page.press('Control+a', '7', 'Tab', 'Control+a', '6', 'Enter');
-  await page.until(() => bench.state !== null, 3000 * SLACK);
+  await page.until(() => bench.state !== null);
   assert.deepEqual(await page.run(() => [bench.state.columns, bench.state.rows]), [7, 6]);
   await page.until(
-      () => document.activeElement.matches('.cell'), 3000 * SLACK
+      () => document.activeElement.matches('.cell')
   );  // the keyboard is at the picture
   await trial.press('ArrowRight', 'Enter', 'ArrowDown', 'Enter');
   assert.deepEqual((await trial.picture()).slice(0, 2), ['.a.....', '.a.....'], 'cells by keys');
@@ -72,7 +72,7 @@ export async function endedWorker({trial, page}) {
   const last = await trial.cell(5, 5);
   await page.mouse('mouseMoved', ...last);
   await page.mouse('mouseReleased', ...last);
-  await trial.settled(20000);
+  await trial.settled();
   const picture = await trial.picture();
   assert.deepEqual(
       [picture[0], picture[4]], ['aaa..', 'aaaaa'], 'the drag and the stroke before it are there'
@@ -84,7 +84,7 @@ export async function endedWorker({trial, page}) {
 }
 
 // Waits until what is shown is on the shelf.
-const kept = (page) => page.until(() => keep.keeper && keep.keeper.isDone, 5000 * SLACK);
+const kept = (page) => page.until(() => keep.keeper && keep.keeper.isDone);
 
 export async function reloading({trial, page}) {
   await page.run((text) => takeFile(new File([text], 'reloaded.ppm')), ppmOf(SMALL));
@@ -95,8 +95,7 @@ export async function reloading({trial, page}) {
   await page.until(
       () => [...document.querySelectorAll('#start button.kept b')].some(
           (one) => one.textContent === 'reloaded'
-      ),
-      5000 * SLACK
+      )
   );
   assert.ok(
       page.dialogs.includes('beforeunload'),
@@ -107,7 +106,7 @@ export async function reloading({trial, page}) {
                 .find((one) => one.querySelector('b').textContent === 'reloaded')
                 .click()
   );
-  await page.until(() => bench.state !== null, 5000 * SLACK);
+  await page.until(() => bench.state !== null);
   assert.deepEqual(
       (await trial.picture()).filter((_, at) => at % 4 === 0),
       ['aaa..', 'aaaaa'],

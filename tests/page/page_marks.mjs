@@ -2,8 +2,8 @@
 // the order of the library, an archive that comes back, what is refused in the palette, tiles. Each
 // is a test of the runner tests/page/page_test.mjs.
 import assert from 'node:assert/strict';
-import {clean, coloursAt, downloaded, drop, fresh, isKept, isOpen, said} from './page_hands.mjs';
-import {SIZES, SLACK, noise, ppmOf} from './page_trial.mjs';
+import {clean, coloursAt, downloaded, drop, fresh, isKept, isOpen, said} from './page_common.mjs';
+import {SIZES, noise, ppmOf} from './page_trial.mjs';
 
 const THREE = ['aabb.', 'a..b.', 'cc...'];
 
@@ -60,17 +60,13 @@ export async function helpOnPhones({browser, url, folder}) {
   const {page, trial} = await fresh(browser, url, folder, 'help', {size: SIZES.phone});
   await trial.open(ppmOf(THREE), 'help');
   await page.tap('#help-open');
-  await page.until(
-      () => document.querySelector('#menu-help:popover-open [data-action="keys"]'), 3000 * SLACK
-  );
+  await page.until(() => document.querySelector('#menu-help:popover-open [data-action="keys"]'));
   await page.tap('#menu-help [data-action="guide"]');
-  await page.until(() => document.querySelector('#version'), 3000 * SLACK);
-  assert.match(
-      await trial.text('#version'), /^nonobench [0-9.]+, commit [0-9a-f]{12}\. .*git’s names/
-  );
+  await page.until(() => document.querySelector('#version'));
+  assert.match(await trial.text('#version'), /^nonobench [0-9.]+, commit [0-9a-f]{12}\. .*git IDs/);
   await page.press('Escape');
   await page.run(() => runAction('play'));
-  await page.until(() => document.querySelector('#play-help'), 3000 * SLACK);
+  await page.until(() => document.querySelector('#play-help'));
   const high = await page.run(
       () => ['play-bar', 'play-palette'].reduce(
           (sum, id) => sum + document.getElementById(id).getBoundingClientRect().height, 0
@@ -78,11 +74,11 @@ export async function helpOnPhones({browser, url, folder}) {
   );
   assert.ok(high <= 160, `${high} px of 844 are for buttons`);
   await page.tap('#play-help');
-  await page.until(() => document.querySelector('.help li'), 3000 * SLACK);
-  const told = await trial.text('.help');
+  await page.until(() => document.querySelector('.help li'));
+  const help = await trial.text('.help');
   for (const wanted of
            ['The cross', 'The eraser', 'right mouse button', '“Check”', '“Hint”', '“Start over”'])
-    assert.ok(told.includes(wanted), wanted);
+    assert.ok(help.includes(wanted), wanted);
   assert.equal(await page.run(() => document.querySelector('#version')), null);
   await page.close();
 }
@@ -102,7 +98,7 @@ export async function lateVerdict({browser, url, folder}) {
   );
   const before = await when();
   assert.equal(before[0][2], null);
-  await page.until(async () => (await keep.keeper.cards())[0].grade, 10000 * SLACK);
+  await page.until(async () => (await keep.keeper.cards())[0].grade);
   const after = await when();
   assert.deepEqual(after.map(([name, at]) => [name, at]), before.map(([name, at]) => [name, at]));
   await trial.drag([[2, 5]]);
@@ -137,24 +133,20 @@ export async function archiveTwice({browser, url, folder}) {
   await trial.drag([[3, 5]]);
   await isKept(page);
   await page.run(() => runAction('new'));
-  await page.until(() => document.querySelector('#library .kept'), 5000 * SLACK);
+  await page.until(() => document.querySelector('#library .kept'));
   await page.click('#library-export');
   const {content} = await downloaded(page, own, '.zip');
   const count = () => page.run(async () => (await keep.keeper.cards()).length);
   assert.equal(await count(), 1);
   await drop(page, own, 'back.zip', content);
-  await page.until(
-      () => document.getElementById('said').textContent.includes('there already'), 5000 * SLACK
-  );
+  await page.until(() => document.getElementById('said').textContent.includes('there already'));
   assert.equal(await count(), 1, await said(page));
   await page.run(async () => {
     const [card] = await keep.keeper.cards();
     await keep.keeper.duplicate(card.id, 'other');
   });
   await drop(page, own, 'back.zip', content);
-  await page.until(
-      () => document.getElementById('said').textContent.includes('there already'), 5000 * SLACK
-  );
+  await page.until(() => document.getElementById('said').textContent.includes('there already'));
   assert.equal(await count(), 2, 'whatever it is named');
   await page.click('#start-back');
   await isOpen(page);
@@ -166,9 +158,7 @@ export async function archiveTwice({browser, url, folder}) {
     runAction('new');
   });
   await drop(page, own, 'back.zip', content);
-  await page.until(
-      () => document.getElementById('said').textContent.includes('1 picture added'), 5000 * SLACK
-  );
+  await page.until(() => document.getElementById('said').textContent.includes('1 picture added'));
   assert.equal(await count(), 2);
   await page.close();
 }
@@ -181,17 +171,17 @@ export async function hintsTellWhy({browser, url, folder}) {
   const WHY = {
     en: [
       'Row 2: columns 1–2 are black, since column 3 is background.',
-      'Column 3: row 2 is red, as the red 2 covers it wherever it lies.',
+      'Column 3: row 2 is red, by overlap: the red 2 covers it wherever it lies.',
       'Row 1: column 2 is black, since columns 1, 3 are background.'
     ],
     de: [
       'Zeile 2: Spalten 1–2 sind Schwarz, denn Spalte 3 ist Hintergrund.',
-      'Spalte 3: Zeile 2 ist Rot, denn der Block 2 Rot bedeckt sie, wo immer er liegt.',
+      'Spalte 3: Zeile 2 ist Rot, durch Überlappung: der Block 2 Rot bedeckt sie, wo immer er liegt.',
       'Zeile 1: Spalte 2 ist Schwarz, denn Spalten 1, 3 sind Hintergrund.'
     ],
     fr: [
       'Ligne 2 : colonnes 1–2 sont en noir, car colonne 3 est du fond.',
-      'Colonne 3 : ligne 2 est en rouge, car le 2 rouge la couvre où qu’il soit.',
+      'Colonne 3 : ligne 2 est en rouge, par recouvrement : le 2 rouge la couvre où qu’il soit.',
       'Ligne 1 : colonne 2 est en noir, car colonnes 1, 3 sont du fond.'
     ],
   };
@@ -199,26 +189,26 @@ export async function hintsTellWhy({browser, url, folder}) {
     const {page, trial} = await fresh(browser, url, folder, `why-${language}`, {
       before: `try { localStorage.setItem('nonobench-language', '${language}'); } catch {}`
     });
-    const told = [];
+    const hints = [];
     for (const rows of [['.a.', 'aa.', '...'], ['ab.', '.ab', '..b'], ['.a.', '...', '.a.']]) {
       await trial.open(ppmOf(rows), 'why');
       await page.run(() => {
         runAction('play');
       });
-      await page.until(() => document.getElementById('play-room')?.open, 5000 * SLACK);
+      await page.until(() => document.getElementById('play-room')?.open);
       const texts = [];
       for (let press = 0; press < 4; press++) {
         await page.click('#play-hint');
-        await page.until((at) => play.hint?.told === at, 10000 * SLACK, Math.min(press, 2));
+        await page.until((at) => play.hint?.level === at, Math.min(press, 2));
         await page.run(() => new Promise((go) => setTimeout(go, 0)));
         texts.push(await trial.text('#play-said'));
       }
       assert.equal(new Set(texts).size, 3, texts.join(' '));
       assert.equal(texts[3], texts[2]);
-      told.push(texts[2]);
+      hints.push(texts[2]);
       await page.run(() => document.getElementById('play-room').close());
     }
-    assert.deepEqual(told, wanted);
+    assert.deepEqual(hints, wanted);
     await page.close();
   }
 }
@@ -243,7 +233,7 @@ export async function refusedInPalette({trial, page}) {
   for (const [id, text, kept] of [['ink-name', 'red', ''], ['ink-sign', '?', '']]) {
     await page.click(`#${id}`);
     await page.press(...text, 'Enter');
-    await page.until(() => document.getElementById('said').dataset.kind === 'alarm', 3000 * SLACK);
+    await page.until(() => document.getElementById('said').dataset.kind === 'alarm');
     assert.equal(await page.run((one) => document.getElementById(one).value, id), kept, id);
   }
 }
@@ -263,14 +253,14 @@ export async function equalTiles({page}) {
  * A new picture is blank and not praised, a second has a name of its own, each colour tells how
  * many cells it has, and where undo ends is said.
  */
-export async function smallPoint(hands) {
-  const {page, trial} = hands;
+export async function smallPoint(user) {
+  const {page, trial} = user;
   const verdict = () => page.run(
       () => ['verdict', 'verdict-why', 'verdict-heard'].map(
           (id) => document.getElementById(id).textContent
       )
   );
-  await hands.press('#new-go');
+  await user.press('#new-go');
   await isOpen(page);
   assert.equal(await page.run(() => bench.name), 'picture');
   assert.equal(await trial.judged(), 'unique');
@@ -279,11 +269,11 @@ export async function smallPoint(hands) {
     'Nothing is painted yet. These clues have one solution, the blank picture.',
     'Blank.'
   ]);
-  await hands.stroke([1, 1], [1, 3]);
+  await user.stroke([1, 1], [1, 3]);
   assert.equal(await trial.judged(), 'unique');
   assert.equal((await verdict())[0], 'Unique');
   await page.until(
-      () => document.querySelector('#palette [data-letter="a"]').dataset.cells === '3', 3000 * SLACK
+      () => document.querySelector('#palette [data-letter="a"]').dataset.cells === '3'
   );
   assert.match(
       await page.run(() => document.querySelector('#palette [data-letter="."]').title),
@@ -296,11 +286,10 @@ export async function smallPoint(hands) {
   await page.run(async () => {
     for (let at = 0; at < 399; at++) await bench.undo();
   });
-  await hands.undo();
+  await user.undo();
   await page.until(
       () => document.getElementById('said').textContent ===
-          'Undo ends here: the page keeps the last 400 strokes.',
-      3000 * SLACK
+          'Undo ends here: the page keeps the last 400 strokes.'
   );
   assert.deepEqual(
       (await trial.picture()).slice(0, 2),
@@ -308,9 +297,9 @@ export async function smallPoint(hands) {
       'the first stroke stays'
   );
   await isKept(page);
-  await hands.menu('file', 'new');
-  await hands.press('#new-go');
-  await page.until(() => bench.name === 'picture 2', 5000 * SLACK);
+  await user.menu('file', 'new');
+  await user.press('#new-go');
+  await page.until(() => bench.name === 'picture 2');
 }
 
 // The parts of the window that what is said lies over: what is in them is cut at their edges, or
@@ -353,9 +342,7 @@ export async function messagesCoverNothing({browser, url, folder}) {
         document.getElementById('verdict-open').click();
       runAction('fix');
     });
-    await page.until(
-        () => document.querySelector('#fix-list button') && !searches.running, 30000 * SLACK
-    );
+    await page.until(() => document.querySelector('#fix-list button') && !searches.running);
     for (const kind of ['', 'alarm']) {
       await page.run((words, one) => {
         say(words, one);
@@ -400,11 +387,11 @@ export async function messagesCoverNothing({browser, url, folder}) {
 }
 
 /** What is typed into a field of a colour moves nothing. */
-export async function typingPoint(hands) {
-  const {page} = hands;
-  await hands.press('#new-go');
+export async function typingPoint(user) {
+  const {page} = user;
+  await user.press('#new-go');
   await isOpen(page);
-  await hands.opens('#ink-name');
+  await user.opens('#ink-name');
   const spot = (id) => page.run(
       (one) => new Promise((go) => requestAnimationFrame(() => requestAnimationFrame(() => {
                                                            const {left, top} =
@@ -415,14 +402,14 @@ export async function typingPoint(hands) {
       id
   );
   for (const id of ['colour-named', 'ink-name', 'ink-sign']) {
-    if (hands.byKeys) await hands.tabTo(`#${id}`);
+    if (user.byKeys) await user.tabTo(`#${id}`);
     const before = await spot(id);
     const within = before.map((one) => one + 5);
-    if (hands.input === 'mouse')
+    if (user.input === 'mouse')
       await page.drag([within]);
-    else if (hands.input === 'touch')
+    else if (user.input === 'touch')
       await page.touch([within]);
-    await page.until((one) => document.activeElement.id === one, 3000 * SLACK, id);
+    await page.until((one) => document.activeElement.id === one, id);
     for (const key of ['r', 'e', 'ArrowLeft', 'Backspace', 'Delete']) {
       await page.press(key);
       assert.deepEqual(await spot(id), before, `${id}: ${key}`);
@@ -484,15 +471,13 @@ export async function roomAgain({browser, url, folder}) {
     window.isFull = true;
   });
   await trial.drag([[3, 5]]);
-  await page.until(
-      () => /storage is full/.test(document.getElementById('said').textContent), 5000 * SLACK
-  );
+  await page.until(() => /storage is full/.test(document.getElementById('said').textContent));
   await page.run(() => {
     window.isFull = false;
   });
   await trial.drag([[3, 4]]);
   await isKept(page);
-  await page.until(() => document.getElementById('said').textContent === '', 3000 * SLACK);
+  await page.until(() => document.getElementById('said').textContent === '');
   await page.close();
 }
 
@@ -501,12 +486,12 @@ export async function roomAgain({browser, url, folder}) {
  * they are not.
  */
 export async function smallNumbersTold({trial, page}) {
-  const told = async (size, show) => {
+  const noteOf = async (size, show) => {
     await trial.open(ppmOf(noise(size, size, 'aaaa.')), 'print');
     await page.run(() => {
       runAction('print');
     });
-    await page.until(() => document.querySelector('#print-show'), 5000 * SLACK);
+    await page.until(() => document.querySelector('#print-show'));
     await page.run((value) => {
       const choice = document.getElementById('print-show');
       choice.value = value;
@@ -514,11 +499,11 @@ export async function smallNumbersTold({trial, page}) {
     }, show);
     const text = await trial.text('#print-small');
     await page.press('Escape');
-    await page.until(() => !document.querySelector('dialog[open]'), 3000 * SLACK);
+    await page.until(() => !document.querySelector('dialog[open]'));
     return text;
   };
-  assert.equal(await told(15, 'colours'), '');
-  assert.match(await told(50, 'symbols'), /^The smallest (numbers|cells) are [12]\.\d mm /);
+  assert.equal(await noteOf(15, 'colours'), '');
+  assert.match(await noteOf(50, 'symbols'), /^The smallest (numbers|cells) are [12]\.\d mm /);
 }
 
 /**
@@ -559,8 +544,7 @@ export async function examplesStay({browser, url, folder}) {
   }
   await trial.load();
   await page.until(
-      () => document.querySelectorAll('#library .kept').length === 2 && window.places.size,
-      5000 * SLACK
+      () => document.querySelectorAll('#library .kept').length === 2 && window.places.size
   );
   await page.run(() => new Promise((go) => setTimeout(go, 600)));
   assert.deepEqual(
@@ -579,7 +563,7 @@ export async function dialogsAtTheirTop({browser, url, folder}) {
   const {page} =
       await fresh(browser, url, folder, 'top', {size: {width: 844, height: 390, touch: true}});
   await page.press('F1');
-  await page.until(() => document.querySelector('#version'), 3000 * SLACK);
+  await page.until(() => document.querySelector('#version'));
   assert.equal((await shown(page))[0], 0);
   await page.press('Escape');
   await page.run(async () => {
@@ -589,7 +573,7 @@ export async function dialogsAtTheirTop({browser, url, folder}) {
         new File([await new Promise((go) => canvas.toBlob(go))], 'part.png', {type: 'image/png'})
     );
   });
-  await page.until(() => document.querySelector('#import-facts')?.textContent, 10000 * SLACK);
+  await page.until(() => document.querySelector('#import-facts')?.textContent);
   assert.deepEqual(await shown(page), [0, 'dialog-title']);
   const [source, preview, buttons] = await page.run(
       () => ['#import-source', '#import-preview', 'dialog .buttons'].map(
@@ -617,12 +601,10 @@ export async function newBegins({trial, page}) {
   });
   await page.click('#new-go');
   await page.until(
-      () => bench.state.columns === 20 && document.body.classList.contains('starting') === false,
-      5000 * SLACK
+      () => bench.state.columns === 20 && document.body.classList.contains('starting') === false
   );
   await page.until(
-      () => document.querySelector('#tool-row [aria-checked=true]').dataset.tool === 'pencil',
-      3000 * SLACK
+      () => document.querySelector('#tool-row [aria-checked=true]').dataset.tool === 'pencil'
   );
   const [scrolled, colour, below] = await page.run(
       () =>
@@ -637,7 +619,7 @@ export async function newBegins({trial, page}) {
 /** A menu tells the keys that the browser hears, and ticks the scheme that is chosen. */
 export async function menusTell({trial, page}) {
   await trial.open(ppmOf(THREE), 'menus');
-  const told = (menu, id) => page.run(([place, one]) => {
+  const labelOf = (menu, id) => page.run(([place, one]) => {
     document.getElementById(`menu-${place}`).showPopover();
     const {textContent} = document.querySelector(`#menu-${place} [data-action="${one}"]`);
     const isTicked = document.querySelector(`#menu-${place} [data-action="${one}"] svg`);
@@ -645,12 +627,12 @@ export async function menusTell({trial, page}) {
     return `${textContent}${isTicked ? ', ticked' : ''}`;
   }, [menu, id]);
   assert.deepEqual(
-      [await told('edit', 'copy'), await told('edit', 'cut')], ['CopyCtrl+C', 'CutCtrl+X']
+      [await labelOf('edit', 'copy'), await labelOf('edit', 'cut')], ['CopyCtrl+C', 'CutCtrl+X']
   );
-  assert.equal(await told('view', 'scheme-system'), 'Light or dark, like the system, ticked');
+  assert.equal(await labelOf('view', 'scheme-system'), 'Light or dark, like the system, ticked');
   await page.run(() => runAction('scheme-dark'));
   assert.deepEqual(
-      [await told('view', 'scheme-dark'), await told('view', 'scheme-light')],
+      [await labelOf('view', 'scheme-dark'), await labelOf('view', 'scheme-light')],
       ['Dark, ticked', 'Light']
   );
 }

@@ -4,7 +4,7 @@ import assert from 'node:assert/strict';
 import {spawnSync} from 'node:child_process';
 import {writeFileSync} from 'node:fs';
 import {join} from 'node:path';
-import {hard} from './page_hands.mjs';
+import {hard} from './page_common.mjs';
 import {SIZES, SLACK, Trial, noise, ppmOf} from './page_trial.mjs';
 import {pause} from './page_browser.mjs';
 
@@ -64,7 +64,7 @@ export async function stopping({trial, page}) {
     document.getElementById('seconds').value = '';
     document.getElementById('seconds').dispatchEvent(new Event('change'));
   });
-  await page.until(() => !document.getElementById('task').hidden, 5000 * SLACK);
+  await page.until(() => !document.getElementById('task').hidden);
   await pause(1200);
   assert.match(await trial.text('#task-time'), /^[1-9]/, 'the seconds are told');
   const began = await page.run(() => {
@@ -86,7 +86,7 @@ export async function stopping({trial, page}) {
   await page.run(() => {
     window.found = certificateText();
   });
-  await page.until(() => !document.getElementById('task').hidden, 2000 * SLACK);
+  await page.until(() => !document.getElementById('task').hidden);
   await pause(500);
   const spent = await page.run(async () => {
     const from = performance.now();
@@ -144,7 +144,7 @@ export async function fixing({trial, page}) {
   const before = await trial.state();
   await trial.action('fix');
   await page.click('#fix-give');
-  await page.until(() => bench.state.givens.size > 0, 5000 * SLACK);
+  await page.until(() => bench.state.givens.size > 0);
   assert.equal(await trial.judged(), 'unique', 'the given cells make it unique');
   assert.equal((await trial.state()).givens.length, 1, 'one is enough');
   await trial.press('Control+z');
@@ -152,8 +152,8 @@ export async function fixing({trial, page}) {
   assert.equal(await trial.judged(), 'ambiguous');
   await trial.action('fix');
   await page.click('#fix-paint');
-  await page.until(() => document.querySelectorAll('#fix-list button').length > 0, 10000 * SLACK);
-  await page.until(() => !searches.running, 30000 * SLACK);
+  await page.until(() => document.querySelectorAll('#fix-list button').length > 0);
+  await page.until(() => !searches.running);
   await pause(300);  // a press before that may be meant for what was listed before
   await page.click('#fix-list button');
   await trial.settled();
@@ -172,7 +172,7 @@ export async function playing({trial, page}) {
   await trial.judged();
   await page.run(() => document.activeElement?.blur());
   await trial.action('play');
-  await page.until(() => document.querySelector('#play-room')?.open, 2000 * SLACK);
+  await page.until(() => document.querySelector('#play-room')?.open);
   const at = (row, col) => page.run((r, c) => {
     const box = document.getElementById('play-field').getBoundingClientRect();
     return [box.left + (c - 0.5) * play.side, box.top + (r - 0.5) * play.side];
@@ -197,9 +197,9 @@ export async function playing({trial, page}) {
   assert.match(await trial.text('#play-said'), /^Solved/);
   assert.deepEqual(await trial.picture(), ['aa.', '.bb', 'a.a'], 'the picture stays as it was');
   await page.press('Escape');
-  await page.until(() => !document.querySelector('#play-room'), 2000 * SLACK);
+  await page.until(() => !document.querySelector('#play-room'));
   await trial.action('play');
-  await page.until(() => document.querySelector('#play-room')?.open, 2000 * SLACK);
+  await page.until(() => document.querySelector('#play-room')?.open);
   assert.deepEqual(
       await page.run(() => play.marks.map((row) => row.join(''))),
       ['aa?', '?bb', 'a?a'],
@@ -209,13 +209,13 @@ export async function playing({trial, page}) {
   await page.press('Control+z');
   assert.deepEqual(await page.run(() => play.marks[1].join('')), '???', 'and are undone');
   await page.press('Escape');
-  await page.until(() => !document.querySelector('#play-room'), 2000 * SLACK);
+  await page.until(() => !document.querySelector('#play-room'));
   await trial.drag([[1, 3]]);
   await trial.judged();
   await page.run(() => {
     runAction('play');
   });
-  await page.until(() => document.querySelector('#play-room')?.open, 2000 * SLACK);
+  await page.until(() => document.querySelector('#play-room')?.open);
   assert.deepEqual(
       await page.run(() => play.marks.map((row) => row.join(''))),
       ['???', '???', '???'],
@@ -223,7 +223,7 @@ export async function playing({trial, page}) {
   );
   await page.click('#play-walk');
   await trial.open(ppmOf(['a.', '.a']), 'behind');
-  await page.until(() => !document.querySelector('#play-room'), 2000 * SLACK);
+  await page.until(() => !document.querySelector('#play-room'));
 }
 
 /** Where there is another solution, what it has is not told to be wrong. */
@@ -233,7 +233,7 @@ export async function checkOfTwoSolutions({trial, page}) {
   await page.run(() => {
     runAction('play');
   });
-  await page.until(() => document.querySelector('#play-room')?.open, 2000 * SLACK);
+  await page.until(() => document.querySelector('#play-room')?.open);
   await page.run(() => document.getElementById('play-field').focus());
   await page.press('ArrowRight', ' ');
   await page.click('#play-check');
@@ -242,7 +242,7 @@ export async function checkOfTwoSolutions({trial, page}) {
   await page.click('#play-check');
   assert.match(await trial.text('#play-said'), /^Nothing differs from your picture so far\./);
   await page.press('Escape');
-  await page.until(() => !document.querySelector('#play-room'), 2000 * SLACK);
+  await page.until(() => !document.querySelector('#play-room'));
 }
 
 export async function reasons({trial, page}) {
@@ -250,7 +250,7 @@ export async function reasons({trial, page}) {
   await trial.judged();
   await page.press('w');
   await page.drag([await trial.cell(1, 1)]);
-  await page.until(() => document.querySelectorAll('#why button').length > 0, 2000 * SLACK);
+  await page.until(() => document.querySelectorAll('#why button').length > 0);
   const texts = await page.run(
       () => [...document.querySelectorAll('#why button')].map((one) => one.textContent)
   );
@@ -294,8 +294,8 @@ export async function onAPhone({browser, url, folder}) {
 }
 
 /**
- * A certificate that is found in the second worker is told as the verdict, and the program accepts
- * it.
+ * A certificate that is found in the second worker is reported as the verdict, and the program
+ * accepts it.
  */
 export async function certificates({trial, page, folder}) {
   const text = ppmOf(['.aa..', 'abba.', 'abba.', '.aa.c', '....c']);

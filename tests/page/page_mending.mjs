@@ -2,8 +2,8 @@
 // verdict, the solving path, hints.
 import assert from 'node:assert/strict';
 import {pause} from './page_browser.mjs';
-import {fresh} from './page_hands.mjs';
-import {SIZES, SLACK, ppmOf} from './page_trial.mjs';
+import {cellName, cellNames, fresh} from './page_common.mjs';
+import {SIZES, ppmOf} from './page_trial.mjs';
 
 const PAIR = ['a.....', '.a....', '......', '...aaa', '...aaa', '...aaa'];
 const GUESS = ['.aa.', 'a..a', 'a..a'];  // one solution, eight cells to guess
@@ -11,19 +11,17 @@ const isNarrow = (page) =>
     page.run(() => document.getElementById('verdict-open').checkVisibility());
 const isMoreOpen = (page) =>
     page.run(() => document.getElementById('panels').classList.contains('open'));
-const moreOf = async (hands) => {
-  if (await isNarrow(hands.page) && !(await isMoreOpen(hands.page)))
-    await hands.press('#verdict-open');
+const moreOf = async (user) => {
+  if (await isNarrow(user.page) && !(await isMoreOpen(user.page)))
+    await user.press('#verdict-open');
 };
 const listed = async (page) => {
-  await page.until(() => document.querySelectorAll('#fix-list button').length > 0, 20000 * SLACK);
-  await page.until(() => !searches.running, 30000 * SLACK);
+  await page.until(() => document.querySelectorAll('#fix-list button').length > 0);
+  await page.until(() => !searches.running);
   await pause(300);  // a press before that may be meant for what was listed before
 };
 const said = (page, wanted) => page.until(
-    (text) => new RegExp(text).test(document.getElementById('play-said').textContent),
-    20000 * SLACK,
-    wanted
+    (text) => new RegExp(text).test(document.getElementById('play-said').textContent), wanted
 );
 const differing =
     (one, two) => [...one.join('')].filter((letter, at) => letter !== two.join('')[at]).length;
@@ -32,12 +30,12 @@ const differing =
  * From two solutions to one, and from a guess to line logic: a proposal is taken by one press, and
  * back by one undo.
  */
-export async function mendingPoint(hands) {
-  const {page, trial} = hands;
+export async function mendingPoint(user) {
+  const {page, trial} = user;
   await trial.open(ppmOf(PAIR), 'pair');
   assert.equal(await trial.judged(), 'ambiguous');
-  await moreOf(hands);
-  await hands.press('#verdict-do [data-action="fix"]');
+  await moreOf(user);
+  await user.press('#verdict-do [data-action="fix"]');
   assert.equal(
       await page.run(() => document.getElementById('fix-goal').value),
       'lines',
@@ -45,19 +43,19 @@ export async function mendingPoint(hands) {
   );
   await listed(page);
   assert.match(await trial.text('#fix-said'), /proposals? found/);
-  await hands.press('#fix-list button');
-  await page.until((before) => bench.state.picture.join() !== before, 5000 * SLACK, PAIR.join());
+  await user.press('#fix-list button');
+  await page.until((before) => bench.state.picture.join() !== before, PAIR.join());
   assert.equal(await trial.judged(), 'unique');
-  await hands.undo();
+  await user.undo();
   assert.deepEqual(await trial.picture(), PAIR, 'one undo takes it back');
   await trial.open(ppmOf(GUESS), 'guess');
   assert.equal(await trial.judged(), 'unique');
   assert.equal((await trial.state()).open, 8);
-  await moreOf(hands);
-  await hands.press('#verdict-do [data-action="fix"]');
+  await moreOf(user);
+  await user.press('#verdict-do [data-action="fix"]');
   await listed(page);
-  await hands.press('#fix-list button');
-  await page.until((before) => bench.state.picture.join() !== before, 5000 * SLACK, GUESS.join());
+  await user.press('#fix-list button');
+  await page.until((before) => bench.state.picture.join() !== before, GUESS.join());
   assert.equal(await trial.judged(), 'unique');
   assert.equal((await trial.state()).open, 0, 'no guessing');
 }
@@ -66,15 +64,14 @@ export async function mendingPoint(hands) {
 export async function noGradeReached({trial, page}) {
   await trial.open(ppmOf(['aa', '.a']), 'tiny');
   assert.equal(await trial.judged(), 'unique');
-  await page.until(() => actions.get('harder').can(), 20000 * SLACK);
+  await page.until(() => actions.get('harder').can());
   await page.run(() => {
     runAction('harder');
   });
   await page.until(
       () =>
           /^Neither a change .* “medium”\. Fewer or more colours, another size or another background may/
-              .test(document.getElementById('fix-said').textContent),
-      20000 * SLACK
+              .test(document.getElementById('fix-said').textContent)
   );
 }
 
@@ -82,73 +79,70 @@ export async function noGradeReached({trial, page}) {
  * A grade is aimed for: what is proposed changes at most four cells or gives one, has the grade
  * once it is taken, and goes by one undo.
  */
-export async function aimPoint(hands) {
-  const {page, trial} = hands;
+export async function aimPoint(user) {
+  const {page, trial} = user;
   await trial.example('flower');
   assert.equal(await trial.judged(), 'unique');
   const before = await trial.picture();
-  await moreOf(hands);
-  await page.until(() => actions.get('harder').can(), 20000 * SLACK);
-  await hands.press('#details-do [data-action="harder"]');
+  await moreOf(user);
+  await page.until(() => actions.get('harder').can());
+  await user.press('#details-do [data-action="harder"]');
   for (const word of ['hard', 'easy']) {
-    if (word === 'easy') await hands.choose('#fix-goal', word);
+    if (word === 'easy') await user.choose('#fix-goal', word);
     assert.equal(await page.run(() => document.getElementById('fix-goal').value), word);
-    await page.until(
-        () => /found\./.test(document.getElementById('fix-said').textContent), 30000 * SLACK
-    );
+    await page.until(() => /found\./.test(document.getElementById('fix-said').textContent));
     const texts = await page.run(
         () => [...document.querySelectorAll('#fix-list button')].map((button) => button.ariaLabel)
     );
     assert.ok(
         texts.every(
             (text) => text.endsWith(`; then the grade is “${word}”`) ||
-                text.startsWith('Give 1 cell, the fewest: ')
+                text.startsWith('Reveal 1 cell, the fewest: ')
         ),
         texts.join('\n')
     );
-    await hands.press('#fix-list button');
-    await page.until((rows) => bench.state.picture.join() !== rows, 5000 * SLACK, before.join());
+    await user.press('#fix-list button');
+    await page.until((rows) => bench.state.picture.join() !== rows, before.join());
     assert.equal(await trial.judged(), 'unique');
     assert.equal((await trial.state()).open, 0);
     assert.ok(differing(before, await trial.picture()) <= 4);
     await page.until(
-        (wanted) => document.getElementById('grade').textContent.startsWith(wanted),
-        20000 * SLACK,
-        `${word} (`
+        (wanted) => document.getElementById('grade').textContent.startsWith(wanted), `${word} (`
     );
     assert.equal(
         await trial.text('#fix-said'), `The grade is “${word}” already. Choose another one.`
     );
-    await hands.undo();
+    await user.undo();
     assert.deepEqual(await trial.picture(), before, 'one undo takes it back');
     assert.ok(
         await page.run(() => document.querySelectorAll('#fix-list button').length > 0),
         'the list is there again'
     );
   }
-  await hands.press('#fix-close');
+  await user.press('#fix-close');
   assert.equal(await page.run(() => document.getElementById('fix').hidden), true);
 }
 
 /** The solving path by its buttons, slider and keys; hints that tell more each time. */
-export async function walkingPoint(hands) {
-  const {page, trial} = hands;
+export async function walkingPoint(user) {
+  const {page, trial} = user;
   await trial.open(ppmOf(['.a.', 'aa.', '...']), 'small');
   assert.equal(await trial.judged(), 'unique');
-  await hands.menu('check', 'walk');
+  await user.menu('check', 'walk');
   await said(page, '^Step 0 of [1-9]');
-  if (hands.byKeys)
+  if (user.byKeys)
     await page.press('ArrowRight');
   else
-    await hands.press('#walk-on');
+    await user.press('#walk-on');
   await said(
-      page, '^Step 1 of 6: Row 2: column 2 is black, as the black 2 covers it wherever it lies\\.$'
+      page,
+      '^Step 1 of 6: Row 2: column 2 is black, by overlap: the black 2 covers it wherever it lies\\.$'
   );
-  for (let step = 2; step <= 6; step++) await hands.press('#walk-on');
+  for (let step = 2; step <= 6; step++) await user.press('#walk-on');
   await said(page, '^Step 6 of 6: Row 2: column 1 is black, since column 3 is background\\.$');
-  await hands.press('#walk-hardest');  // the first that needs a cell
+  await user.press('#walk-hardest');  // the first that needs a cell
   await said(page, '^Step 3 of 6: Column 2: row 1 is black, since row 3 is background\\.$');
-  await hands.press('#walk-end');
+  await user.press('#walk-end');
   assert.equal(
       await page.run(() => play.marks.flat().every((mark) => mark === '?')),
       true,
@@ -158,7 +152,7 @@ export async function walkingPoint(hands) {
            of ['^Row 2: more cells follow\\.$',
                '^Row 2: columns 1–2 are black\\.$',
                '^Row 2: columns 1–2 are black, since column 3 is background\\.$']) {
-    await hands.press('#play-hint');
+    await user.press('#play-hint');
     await said(page, wanted);
   }
   await page.run(() => {
@@ -168,34 +162,34 @@ export async function walkingPoint(hands) {
            of ['^Row 1: more cells follow\\.$',
                '^Row 1: column 2 is black\\.$',
                '^Row 1: column 2 is black, since columns 1, 3 are background\\.$']) {
-    await hands.press('#play-hint');
+    await user.press('#play-hint');
     await said(page, wanted);
   }
-  await hands.press('#play-do');
+  await user.press('#play-do');
   await said(page, '^Row 1: column 2 is black\\.$');
   assert.deepEqual(
       await page.run(() => play.marks.map((row) => row.join(''))), ['?a?', 'a??', '???']
   );
-  await hands.press('#play-do');
+  await user.press('#play-do');
   await said(page, '^Solved\\.$');
-  if (hands.byKeys)
+  if (user.byKeys)
     await page.press('Escape');
   else
-    await hands.press('#play-close');
-  await page.until(() => !document.querySelector('#play-room'), 3000 * SLACK);
+    await user.press('#play-close');
+  await page.until(() => !document.querySelector('#play-room'));
 }
 
 /** The first example is mended by one press behind Fix it. */
-export async function firstPoint(hands) {
-  const {page, trial} = hands;
-  await hands.press('#examples li:nth-child(1) button');
-  await page.until(() => bench.state !== null, 8000 * SLACK);
+export async function firstPoint(user) {
+  const {page, trial} = user;
+  await user.press('#examples li:nth-child(1) button');
+  await page.until(() => bench.state !== null);
   assert.equal(await trial.judged(), 'ambiguous');
-  await moreOf(hands);
-  await hands.press('#verdict-do [data-action="fix"]');
+  await moreOf(user);
+  await user.press('#verdict-do [data-action="fix"]');
   await listed(page);
-  await hands.press('#fix-list button');
-  await page.until(() => bench.past.length === 1, 5000 * SLACK);
+  await user.press('#fix-list button');
+  await page.until(() => bench.past.length === 1);
   assert.equal(await trial.judged(), 'unique');
   assert.equal((await trial.state()).open, 0);
   for (const example of ['heart', 'mushroom', 'boat']) {
@@ -222,7 +216,7 @@ export async function repairsOfSeveralCells({trial, page}) {
       'several repairs of both places'
   );
   assert.match(await trial.text('#fix-said'), /No smaller one exists/);
-  assert.match(sizes.at(-1), /Give \d+ cells?, the fewest/, 'given cells stand beside');
+  assert.match(sizes.at(-1), /Reveal \d+ cells?, the fewest/, 'given cells stand beside');
   assert.equal(
       await page.run(() => document.querySelector('#fix-list canvas').width >= 80),
       true,
@@ -251,7 +245,7 @@ export async function sameNamesToldApart({trial, page}) {
   await listed(page);
   assert.match(
       await page.run(() => document.querySelector('#fix-list button').ariaLabel),
-      /^1 cell: row [12], column [12]: white to darker white/
+      new RegExp(`^1 cell: ${cellNames([1, 2], [1, 2])}: white to darker white`)
   );
 }
 
@@ -282,9 +276,8 @@ const GUESSED = ['a.a...', 'a.a.aa', 'a....a', 'a..aa.', '.aa..a'];
  */
 export async function noPreviewAtRest({trial, page}) {
   const seen = () => page.run(() => [sheet.overlay.size, sheet.framed.length]);
-  const isListed = () => page.until(
-      () => document.querySelector('#fix-list button') && !searches.running, 30000 * SLACK
-  );
+  const isListed = () =>
+      page.until(() => document.querySelector('#fix-list button') && !searches.running);
   await trial.open(ppmOf(PAIR), 'pair');
   await trial.judged();
   await trial.action('fix');
@@ -342,12 +335,11 @@ export async function oneSolutionInstead({trial, page}) {
   await listed(page);
   await page.until(
       () => document.getElementById('fix-said').textContent ===
-          'No small change was found after which lines alone solve it. These leave one solution.',
-      20000 * SLACK
+          'No small change was found after which line logic alone solves it. These leave one solution.'
   );
   assert.match(
       await page.run(() => document.querySelector('#fix-list button').ariaLabel),
-      /^1 cell: row 3, column 2: white to black; then 13 open cells$/
+      new RegExp(`^1 cell: ${cellName(3, 2)}: white to black; then 13 open cells$`)
   );
   await page.click('#fix-list button');
   assert.equal(await trial.judged(), 'unique');
@@ -356,9 +348,8 @@ export async function oneSolutionInstead({trial, page}) {
 }
 
 export async function gradeBeside({trial, page}) {
-  const graded = (wanted) => page.until(
-      (text) => document.getElementById('grade').textContent.startsWith(text), 20000 * SLACK, wanted
-  );
+  const graded = (wanted) =>
+      page.until((text) => document.getElementById('grade').textContent.startsWith(text), wanted);
   await trial.open(ppmOf(['.a.', 'aa.', '...']), 'small');
   await trial.judged();
   await graded('easy (2 rounds, 8 lines looked at, at most 2 lines until a cell is settled)');
@@ -367,12 +358,11 @@ export async function gradeBeside({trial, page}) {
   await trial.judged();
   await page.until(
       () => document.getElementById('publish').textContent ===
-          'no: the background and “darker white” (a) look alike',
-      20000 * SLACK
+          'no: the background and “darker white” (a) look alike'
   );
   await trial.open(ppmOf(GUESS), 'guess');
   await trial.judged();
-  await graded('very hard (8 open cells, 1 split, depth 1;');
+  await graded('very hard (8 open cells, 1 guess, nested 1 deep;');
   await trial.open(ppmOf(PAIR), 'pair');
   assert.equal(await trial.judged(), 'ambiguous');
   assert.deepEqual(
@@ -381,8 +371,8 @@ export async function gradeBeside({trial, page}) {
       'no grade without one solution'
   );
   for (const [rows, background, flaw] of [
-           [['..', '..'], '255,255,255', 'no: no cell has a colour'],
-           [['aa', 'aa'], '255,255,0', 'no: no cell has the background']]) {
+           [['..', '..'], '255,255,255', 'no: the picture is blank'],
+           [['aa', 'aa'], '255,255,0', 'no: no cell is background']]) {
     await page.run(
         (text, ground) =>
             bench.open(
@@ -391,9 +381,7 @@ export async function gradeBeside({trial, page}) {
         ppmOf(rows),
         background
     );
-    await page.until(
-        (text) => document.getElementById('publish').textContent === text, 20000 * SLACK, flaw
-    );
+    await page.until((text) => document.getElementById('publish').textContent === text, flaw);
   }
 }
 
@@ -405,9 +393,7 @@ export async function flawsAreWhole({browser, url, folder}) {
   for (const [name, size] of Object.entries(SIZES)) {
     const {page, trial} = await fresh(browser, url, folder, `flaws-${name}`, {size});
     const publish = (wanted) => page.until(
-        (text) => new RegExp(text).test(document.getElementById('publish').textContent),
-        20000 * SLACK,
-        wanted
+        (text) => new RegExp(text).test(document.getElementById('publish').textContent), wanted
     );
     const places = () => page.run(
         () => [...document.querySelectorAll('#stage, #details select')]
@@ -423,7 +409,7 @@ export async function flawsAreWhole({browser, url, folder}) {
     const before = await places();
     await page.shot(`${folder}/fit-${name}.png`);
     await page.run(() => bench.stroke(['colour set b 128 45 45', 'pin 1 2']).then(() => true));
-    await publish('^no: row 1, column 2 need not be given; .* look alike$');
+    await publish(`^no: ${cellName(1, 2)} need not be given; .* look alike$`);
     await page.run(() => document.getElementById('publish').scrollIntoView({block: 'nearest'}));
     const cut = await page.run(() => {
       const one = document.getElementById('publish');
@@ -447,7 +433,6 @@ export async function titlesKeepGrades({trial, page}) {
   const card = (wanted) => page.until(
       async (text) =>
           (await keep.keeper.cards()).some(({name, grade}) => `${name} ${grade}` === text),
-      20000 * SLACK,
       wanted
   );
   const opened = (name) => page.run(
@@ -461,13 +446,13 @@ export async function titlesKeepGrades({trial, page}) {
   const titled = async (text) => {
     await page.press(...text);
     await page.click('dialog .main');
-    await page.until(() => !document.querySelector('dialog[open]'), 5000 * SLACK);
+    await page.until(() => !document.querySelector('dialog[open]'));
   };
   await opened('one');
   await card('one easy');
   await page.run(() => runAction('about'));
   await titled('T');
-  await page.until(() => bench.state.about.title === 'T', 5000 * SLACK);
+  await page.until(() => bench.state.about.title === 'T');
   await page.run(() => keep.keeper.hurry());
   await card('T easy');
   await page.run(() => {
@@ -476,8 +461,7 @@ export async function titlesKeepGrades({trial, page}) {
   await opened('two');
   await titled('U');
   await page.until(
-      () => document.getElementById('said').textContent.startsWith('Another picture was opened'),
-      5000 * SLACK
+      () => document.getElementById('said').textContent.startsWith('Another picture was opened')
   );
   assert.deepEqual(
       await page.run(() => [bench.name, bench.state.about, bench.past.length]), ['two', {}, 0]
@@ -492,7 +476,7 @@ export async function fieldsAreReplaced({trial, page}) {
     runAction('resize');
   });
   await page.press('1', '2', 'Tab', '1', '7', 'Enter');
-  await page.until(() => bench.state.rows === 17 && bench.state.columns === 12, 5000 * SLACK);
+  await page.until(() => bench.state.rows === 17 && bench.state.columns === 12);
 }
 
 export async function walkOfAGuess({trial, page}) {
@@ -507,24 +491,19 @@ export async function walkOfAGuess({trial, page}) {
     await page.press('ArrowRight');
     texts.push(await trial.text('#play-said'));
   }
-  assert.equal(
-      texts
-          .filter(
-              (text) =>
-                  /More than line logic: row \d, column \d is (black|background)\. Any other colour there leads nowhere\./
-                      .test(text)
-          )
-          .length,
-      1,
-      texts.join('\n')
+  const cell = cellNames([1, 2, 3], [1, 2, 3, 4]);
+  const guess = new RegExp(
+      `More than line logic: ${cell} is (black|background)\\. ` +
+      'Any other colour there leads to a contradiction\\.'
   );
+  assert.equal(texts.filter((text) => guess.test(text)).length, 1, texts.join('\n'));
   assert.deepEqual(
       await page.run(() => play.marks.map((row) => row.join(''))),
       GUESS,
       'the path ends at the picture'
   );
   await page.click('#walk-hardest');
-  await said(page, ': More than line logic: row');
+  await said(page, ': More than line logic: ');
   await page.click('#walk-heat');
   assert.deepEqual(
       await page.run(() => [...play.heat].filter((round) => round < 0).length),
@@ -541,19 +520,17 @@ export async function walkOfAGuess({trial, page}) {
 export async function gradeGoesOut({trial, page}) {
   await trial.open(ppmOf(['.a.', 'aa.', '...']), 'small');
   await trial.judged();
-  await page.until(
-      () => document.getElementById('grade').textContent.startsWith('easy'), 20000 * SLACK
-  );
+  await page.until(() => document.getElementById('grade').textContent.startsWith('easy'));
   await page.run(() => {
     window.print = () => {
       window.isPrinted = true;
     };
     runAction('print');
   });
-  await page.until(() => document.querySelector('#print-grade'), 3000 * SLACK);
+  await page.until(() => document.querySelector('#print-grade'));
   await page.click('#print-grade');
   await page.click('dialog button.main');
-  await page.until(() => window.isPrinted, 5000 * SLACK);
+  await page.until(() => window.isPrinted);
   assert.match(
       await page.run(() => document.querySelectorAll('.printed text')[1].textContent),
       /3 by 3, easy/
@@ -563,8 +540,6 @@ export async function gradeGoesOut({trial, page}) {
   });
   for (let twice = 0; twice < 2; twice++) await page.click('#about-grade');
   await page.click('dialog button.main');
-  await page.until(
-      () => bench.state.about.description, 5000 * SLACK
-  );  // the dialog is heard after it has closed
+  await page.until(() => bench.state.about.description);  // the dialog is heard after it has closed
   assert.equal(await page.run(() => bench.state.about.description), 'Grade: easy', 'once');
 }

@@ -4,8 +4,22 @@ import assert from 'node:assert/strict';
 import {execFileSync} from 'node:child_process';
 import {readFileSync, readdirSync, rmSync, writeFileSync} from 'node:fs';
 import {join} from 'node:path';
-import {NO_PICKERS, act, clean, coloursAt, downloaded, drop, examples, fresh, isKept, isOpen, menu, said} from './page_hands.mjs';
-import {SIZES, SLACK, noise, ppmOf} from './page_trial.mjs';
+import {
+  NO_PICKERS,
+  act,
+  cellName,
+  clean,
+  coloursAt,
+  downloaded,
+  drop,
+  examples,
+  fresh,
+  isKept,
+  isOpen,
+  menu,
+  said
+} from './page_common.mjs';
+import {SIZES, noise, ppmOf} from './page_trial.mjs';
 
 /**
  * Ctrl+S downloads an XML text under the document's name that opens as it was, texts and names
@@ -88,7 +102,7 @@ export async function savedToFile({browser, url, folder}) {
   for (const cell of [[2, 2], [3, 3]]) {
     await trial.drag([cell]);
     await page.press('Control+s');
-    await page.until(() => bench.isSaved, 5000 * SLACK);
+    await page.until(() => bench.isSaved);
   }
   const [asked, written, title] =
       await page.run(() => [window.asked, window.written, document.title]);
@@ -126,11 +140,11 @@ export async function savedOfItsPicture({browser, url, folder}) {
   const openedMeanwhile =
       async (what, begin) => {  // another picture opens when so much of the first is done
     await open('first', ['.ab.', 'aabb', 'bbaa', '.ba.']);
-    await page.until(() => document.getElementById('grade').textContent !== '–', 10000 * SLACK);
+    await page.until(() => document.getElementById('grade').textContent !== '–');
     await isKept(page);
     await page.run((call) => Object.assign(window, {late: call, go: null}) && true, what);
     await begin();
-    await page.until(() => window.go, 5000 * SLACK);
+    await page.until(() => window.go);
     await open('second', ['ab']);
     await page.run(() => window.go());
   };
@@ -143,7 +157,7 @@ export async function savedOfItsPicture({browser, url, folder}) {
   assert.deepEqual(namesIn('first-site.zip'), ['first.ppm', 'first.ppm.cert', 'first.ppm.txt']);
   await openedMeanwhile('open', async () => {
     await page.press('Control+p');
-    await page.until(() => document.querySelector('#print-all'), 5000 * SLACK);
+    await page.until(() => document.querySelector('#print-all'));
     await page.run(() => {
       document.querySelector('#print-all').click();
       document.querySelector('dialog .buttons button:nth-child(2)').click();
@@ -166,9 +180,7 @@ export async function savedOfItsPicture({browser, url, folder}) {
     });
     runAction('save');
   }));
-  assert.equal(
-      (await page.until(() => window.written, 3000 * SLACK)).match(/\|.{4}\|/g)?.length, 4
-  );
+  assert.equal((await page.until(() => window.written)).match(/\|.{4}\|/g)?.length, 4);
   assert.deepEqual(await page.run(() => [bench.name, saving.handle]), ['second', null]);
   await openedMeanwhile('', () => page.run(() => {
     runAction('resize');
@@ -179,8 +191,7 @@ export async function savedOfItsPicture({browser, url, folder}) {
   }));
   await page.until(
       () => document.getElementById('said'
-      ).textContent.startsWith('Another picture was opened meanwhile.'),
-      3000 * SLACK
+      ).textContent.startsWith('Another picture was opened meanwhile.')
   );
   assert.deepEqual(await trial.picture(), ['ab']);
   await page.close();
@@ -216,9 +227,9 @@ export async function xml({browser, url, folder}) {
     window.print = () => {};
   });
   await menu(page, 'print');
-  await page.until(() => document.querySelector('#print-title'), 3000 * SLACK);
+  await page.until(() => document.querySelector('#print-title'));
   await page.click('dialog button.main');
-  await page.until(() => document.querySelectorAll('.printed').length === 2, 5000 * SLACK);
+  await page.until(() => document.querySelectorAll('.printed').length === 2);
   assert.equal(
       await page.run(() => window.bad ?? document.querySelectorAll('#print img').length), 0
   );
@@ -269,12 +280,12 @@ export async function exportsAndPrint({browser, url, folder}) {
     window.print = () => {};
   });
   await page.press('Control+p');
-  await page.until(() => document.querySelector('#print-show'), 3000 * SLACK);
+  await page.until(() => document.querySelector('#print-show'));
   await page.run(() => {
     document.getElementById('print-show').value = 'letters';
   });
   await page.press('Enter');
-  await page.until(() => document.querySelectorAll('.printed').length === 2, 5000 * SLACK);
+  await page.until(() => document.querySelectorAll('.printed').length === 2);
   const {data} = await page.send('Page.printToPDF', {});
   const pdf = Buffer.from(data, 'base64');
   writeFileSync(join(own, 'sheet.pdf'), pdf);
@@ -311,9 +322,10 @@ export async function exportsAndPrint({browser, url, folder}) {
   await trial.judged();
   await menu(page, 'export-site');
   await downloaded(page, own, 'spare-site.zip');
-  assert.match(
+  assert.equal(
       await said(page),
-      /^spare-site\.zip saved\. But the puzzle is not fit to be published: row 1, column 1 need not be given\.$/
+      'spare-site.zip saved. But the puzzle is not fit to be published: ' +
+          `${cellName(1, 1)} need not be given.`
   );
   const night = (...words) => execFileSync('unzip', [...words], {cwd: own, encoding: 'utf8'});
   assert.equal(
@@ -327,7 +339,6 @@ export async function exportsAndPrint({browser, url, folder}) {
     await page
         .until(
             (text) => document.getElementById('said').textContent === text,
-            3000 * SLACK,
             `\u201c${zip}\u201d: 0 pictures added to the library; 1 picture there already.`
         )
         .catch(async () => {
@@ -376,9 +387,9 @@ export async function printedOnWhite({browser, url, folder}) {
     window.print = () => {};
   });
   await page.press('Control+p');
-  await page.until(() => document.querySelector('dialog input'), 3000 * SLACK);
+  await page.until(() => document.querySelector('dialog input'));
   await page.press('Enter');
-  await page.until(() => document.querySelectorAll('.printed').length === 2, 5000 * SLACK);
+  await page.until(() => document.querySelectorAll('.printed').length === 2);
   assert.deepEqual(
       await printedPoints(page, [[0.002, 0.002], [0.002, 0.998], [0.5, 0.002]]),
       Array(3).fill('255,255,255'),
@@ -443,7 +454,7 @@ async function printWith(page, fields) {
     document.getElementById('print').replaceChildren();
   });
   await page.press('Control+p');
-  await page.until(() => document.querySelector('#print-show'), 3000 * SLACK);
+  await page.until(() => document.querySelector('#print-show'));
   await page.run((all) => {
     for (const [id, value] of Object.entries(all)) {
       const field = document.getElementById(id);
@@ -454,7 +465,7 @@ async function printWith(page, fields) {
     }
   }, fields);
   await page.click('dialog button.main');
-  await page.until(() => document.querySelector('.printed'), 5000 * SLACK);
+  await page.until(() => document.querySelector('.printed'));
 }
 
 /**
@@ -518,7 +529,7 @@ export async function pdfOfSheets({browser, url, folder}) {
       )),
       'diagonal'
   );
-  await trial.settled(60000);
+  await trial.settled();
   await printWith(page, {'print-paper': 'letter', 'print-wide': true});
   const pages = await pdfOf(page, own, 'sheets.pdf');
   assert.deepEqual(pages.map(({size}) => size), Array(5).fill([279, 216]));
@@ -536,7 +547,7 @@ export async function pdfOfSheets({browser, url, folder}) {
   assert.match(pages[4].text, /diagonal: solution/);
   for (const [at, {text}] of pages.entries()) assert.match(text, new RegExp(`${at + 1} ?/ ?5`));
   await page.press('Control+p');
-  await page.until(() => document.querySelector('#print-show'), 3000 * SLACK);
+  await page.until(() => document.querySelector('#print-show'));
   await page.run(
       () => [...document.querySelectorAll('dialog .buttons button')]
                 .find((one) => one.textContent === 'Save the sheets as SVG (zip)')
@@ -603,7 +614,7 @@ async function shore({browser, url, folder}, name) {
 async function printAll(page, button = 'button.main') {
   await page.run(() => document.getElementById('print').replaceChildren());
   await page.press('Control+p');
-  await page.until(() => document.querySelector('#print-others'), 3000 * SLACK);
+  await page.until(() => document.querySelector('#print-others'));
   await page.run(() => {
     document.getElementById('print-show').value = 'letters';
   });
@@ -661,7 +672,7 @@ export async function cluesOfTheEngine(all) {
       'by the browser\'s own print'
   );
   await printAll(page);
-  await page.until(() => window.isPrinted, 8000 * SLACK);
+  await page.until(() => window.isPrinted);
   // By hand, first, second, third: rows, then columns, each from its cells outward.
   const wanted = [
     '47b', '1a', '2c',  '2c', '1c', '2a', '47b', '3a', '1a', '2a',
@@ -676,7 +687,7 @@ export async function cluesOfTheEngine(all) {
       'in SVG'
   );
   await page.run(() => runAction('new'));
-  await page.until(() => document.querySelectorAll('#library .kept').length === 3, 8000 * SLACK);
+  await page.until(() => document.querySelectorAll('#library .kept').length === 3);
   await page.click('#library-export');
   await downloaded(page, own, 'library.zip');
   for (const [name, lines] of Object.entries(SHORE_XML))
@@ -705,7 +716,7 @@ export async function cluesOfFiles(all) {
         'Input.dispatchDragEvent',
         {type, x: 600, y: 400, data: {items: [], files: paths, dragOperationsMask: 1}}
     );
-  await page.until(() => document.querySelectorAll('#several tbody tr').length === 3, 8000 * SLACK);
+  await page.until(() => document.querySelectorAll('#several tbody tr').length === 3);
   await page.click('dialog[open] .buttons button:nth-of-type(2)');
   await downloaded(page, own, 'puzzles.zip');
   const lines = xmlClues(unzipped(own, 'nonobench puzzles.zip'));
@@ -725,7 +736,7 @@ export async function nothingLeaves(all) {
       /^Nothing was saved or printed, as “(first|second)” could not be opened: there is not enough memory for it$/;
   for (const button of ['button.main', 'button:not(.main):not(:first-child)']) {
     await printAll(page, button);
-    await page.until(() => document.getElementById('said').dataset.kind === 'alarm', 8000 * SLACK);
+    await page.until(() => document.getElementById('said').dataset.kind === 'alarm');
     assert.match(await said(page), wanted);
     await page.click('#said');
   }
@@ -736,9 +747,9 @@ export async function nothingLeaves(all) {
       [0, false]
   );
   await page.run(() => runAction('new'));
-  await page.until(() => document.querySelectorAll('#library .kept').length === 3, 8000 * SLACK);
+  await page.until(() => document.querySelectorAll('#library .kept').length === 3);
   await page.click('#library-export');
-  await page.until(() => document.getElementById('said').dataset.kind === 'alarm', 8000 * SLACK);
+  await page.until(() => document.getElementById('said').dataset.kind === 'alarm');
   assert.match(
       await said(page),
       /^Nothing was saved or printed, as “(first|second|third)” could not be opened: there is not enough memory for it$/
@@ -756,7 +767,7 @@ export async function nothingLeaves(all) {
     await keep.keeper.shelf.put(`work:${id}`, {version: 2, id, doc: null});
   });
   await printAll(page);
-  await page.until(() => document.getElementById('said').dataset.kind === 'alarm', 8000 * SLACK);
+  await page.until(() => document.getElementById('said').dataset.kind === 'alarm');
   assert.equal(await said(page), '“first”: This picture of the library is damaged or gone.');
   assert.deepEqual(
       await page.run(
@@ -774,10 +785,10 @@ const BOOK = {
 };
 
 /**
- * Pictures of the library are printed with the one at hand, in the order of their names: two a
+ * Pictures of the library are printed with the open one, in the order of their names: two a
  * sheet, with letters, under their numbers; solutions with titles behind. The PDF is read back.
  */
-export async function printPoint(hands, {page, own}) {
+export async function printPoint(user, {page, own}) {
   for (const [name, picture] of Object.entries(BOOK)) {
     await page.run(
         (title, rows) => openDoc(
@@ -794,7 +805,7 @@ export async function printPoint(hands, {page, own}) {
         name,
         picture
     );
-    await page.until(() => keep.keeper.isDone, 5000 * SLACK);
+    await page.until(() => keep.keeper.isDone);
   }
   await isOpen(page);
   await page.run(() => {
@@ -802,19 +813,19 @@ export async function printPoint(hands, {page, own}) {
       window.isPrinted = true;
     };
   });
-  if (hands.byKeys)
+  if (user.byKeys)
     await page.press('Control+p');
   else
-    await hands.menu('file', 'print');
-  await page.until(() => document.querySelector('#print-others'), 3000 * SLACK);
-  await hands.choose('#print-paper', 'a5');
-  await hands.fill('#print-margin', '10');
-  await hands.choose('#print-count', '2');
-  await hands.choose('#print-show', 'letters');
-  await hands.press('#print-others summary');
-  await hands.tick('#print-all');
-  await hands.press('dialog button.main');
-  await page.until(() => window.isPrinted, 5000 * SLACK);
+    await user.menu('file', 'print');
+  await page.until(() => document.querySelector('#print-others'));
+  await user.choose('#print-paper', 'a5');
+  await user.fill('#print-margin', '10');
+  await user.choose('#print-count', '2');
+  await user.choose('#print-show', 'letters');
+  await user.press('#print-others summary');
+  await user.tick('#print-all');
+  await user.press('dialog button.main');
+  await page.until(() => window.isPrinted);
   const sheets = await pdfOf(page, own, 'book.pdf');
   assert.deepEqual(sheets.map(({size}) => size), Array(sheets.length).fill([148, 210]));
   const heads =
@@ -842,7 +853,7 @@ export async function pathAsGif({browser, url, folder}) {
     runAction('export-path');
   });
   const {content} = await downloaded(page, own, '-path.gif');
-  const told = await page.run(async (bytes) => {
+  const film = await page.run(async (bytes) => {
     const decoder = new ImageDecoder(
         {data: Uint8Array.from(atob(bytes), (sign) => sign.charCodeAt(0)), type: 'image/gif'}
     );
@@ -863,8 +874,8 @@ export async function pathAsGif({browser, url, folder}) {
     };
     return {frameCount, first: await at(0), last: await at(frameCount - 1)};
   }, content.toString('base64'));
-  assert.ok(told.frameCount > 3, 'step by step');
-  const [side, more] = [24, (key) => told.last.counts[key] - told.first.counts[key]];
+  assert.ok(film.frameCount > 3, 'step by step');
+  const [side, more] = [24, (key) => film.last.counts[key] - film.first.counts[key]];
   for (const key of ['0,0,0', '200,40,40'])
     assert.ok(
         more(key) > 6 * (side - 3) ** 2 * 0.9 && more(key) < 6 * side ** 2,
@@ -876,8 +887,7 @@ export async function pathAsGif({browser, url, folder}) {
     runAction('export-path');
   });
   await page.until(
-      () => /Only a puzzle with one solution/.test(document.getElementById('said').textContent),
-      3000 * SLACK
+      () => /Only a puzzle with one solution/.test(document.getElementById('said').textContent)
   );
   assert.deepEqual(page.faults, []);
   await page.close();
@@ -887,8 +897,8 @@ export async function pathAsGif({browser, url, folder}) {
  * What others get: by the title's name, without what is locked, from one part of the menu; one
  * sheet is one SVG; and colours have one name each.
  */
-export async function othersPoint(hands, {page, trial, own}) {
-  await hands.press('#new-go');
+export async function othersPoint(user, {page, trial, own}) {
+  await user.press('#new-go');
   await isOpen(page);
   await page.run(
       () => bench.become((doc) => ({
@@ -900,24 +910,23 @@ export async function othersPoint(hands, {page, trial, own}) {
                          }))
   );
   if (await page.run(() => document.getElementById('title').checkVisibility()))
-    await hands.press('#title');
+    await user.press('#title');
   else
-    await hands.menu('file', 'about');
-  await page.until(() => document.querySelector('dialog[open] input'), 3000 * SLACK);
-  await hands.fill('dialog[open] label:first-child input', 'No.5: a cat');
-  await hands.press('dialog button.main');
-  await page.until(() => bench.state.about.title === 'No.5: a cat', 5000 * SLACK);
+    await user.menu('file', 'about');
+  await page.until(() => document.querySelector('dialog[open] input'));
+  await user.fill('dialog[open] label:first-child input', 'No.5: a cat');
+  await user.press('dialog button.main');
+  await page.until(() => bench.state.about.title === 'No.5: a cat');
   await page.run(() => document.activeElement.blur());
-  await hands.undo();
+  await user.undo();
   await page.until(
       () => document.getElementById('said'
-      ).textContent.startsWith('Undone: the last stroke. Title and texts stay.'),
-      3000 * SLACK
+      ).textContent.startsWith('Undone: the last stroke. Title and texts stay.')
   );
   await page.run(() => runAction('redo'));
   await trial.settled();
-  await page.until(async () => (await keep.keeper.cards())[0].name === 'No.5  a cat', 5000 * SLACK);
-  await hands.menu('file', 'export-xml');
+  await page.until(async () => (await keep.keeper.cards())[0].name === 'No.5  a cat');
+  await user.menu('file', 'export-xml');
   const {name, content} = await downloaded(page, own, '.xml');
   assert.equal(name, 'No.5  a cat.xml');
   assert.doesNotMatch(content.toString(), /locks|locked/);
@@ -945,6 +954,7 @@ export async function othersPoint(hands, {page, trial, own}) {
         'export-xml',
         'export-site',
         'print',
+        'book',
         'share',
         'export-empty',
         'export-picture',
@@ -955,17 +965,16 @@ export async function othersPoint(hands, {page, trial, own}) {
         'export-non'
       ]
   );
-  await hands.menu('file', 'print');
-  await page.until(() => document.querySelector('#print-answers'), 3000 * SLACK);
+  await user.menu('file', 'print');
+  await page.until(() => document.querySelector('#print-answers'));
   const svg = () => trial.text('dialog .buttons button:nth-child(2)');
   assert.equal(await svg(), 'Save the sheets as SVG (zip)');
-  await hands.tick('#print-answers');
+  await user.tick('#print-answers');
   await page.until(
       () => document.querySelector('dialog .buttons button:nth-child(2)').textContent ===
-          'Save as SVG',
-      3000 * SLACK
+          'Save as SVG'
   );
-  await hands.press('dialog .buttons button:nth-child(2)');
+  await user.press('dialog .buttons button:nth-child(2)');
   const sheet = await downloaded(page, own, '.svg');
   assert.equal(sheet.name, 'No.5  a cat-print.svg');
   assert.match(sheet.content.toString(), />darker blue<[^]*>lighter blue</);
@@ -985,11 +994,9 @@ export async function lettersAskedAnew({trial, page}) {
     await page.run(() => {
       runAction('print');
     });
-    const show = await page.until(
-        () => document.querySelector('dialog[open] #print-show')?.value, 5000 * SLACK
-    );
+    const show = await page.until(() => document.querySelector('dialog[open] #print-show')?.value);
     await page.press('Escape');
-    await page.until(() => !document.querySelector('dialog[open]'), 3000 * SLACK);
+    await page.until(() => !document.querySelector('dialog[open]'));
     await printWith(page, fields);
     return [
       show,
@@ -1029,8 +1036,8 @@ export async function tintsOnPaper({browser, url, folder}) {
   const {page, trial} = await fresh(browser, url, folder, 'tints');
   await trial.open(ppmOf(['ab', '.a'], {'.': '255 255 255', a: '120 0 0', b: '120 60 0'}), 'tints');
   await menu(page, 'print');
-  await page.until(() => document.querySelector('#print-show'), 3000 * SLACK);
-  for (const [show, isTold] of
+  await page.until(() => document.querySelector('#print-show'));
+  for (const [show, isSaid] of
            [['colours', true], ['letters', false], ['signs', false], ['colours', true]]) {
     await page.run((value) => {
       const choice = document.getElementById('print-show');
@@ -1041,8 +1048,7 @@ export async function tintsOnPaper({browser, url, folder}) {
         (wanted) => wanted ===
             [...document.querySelectorAll('dialog p.wrong'
              )].some((one) => one.checkVisibility() && /look alike on paper/.test(one.textContent)),
-        3000 * SLACK,
-        isTold
+        isSaid
     );
   }
   assert.deepEqual(page.faults, []);
@@ -1084,18 +1090,14 @@ export async function printNotes({browser, url, folder}) {
       await trial.judged();
       await isKept(page);
     }
-    await page.until(
-        async () => (await keep.keeper.cards()).every((card) => card.verdict), 8000 * SLACK
-    );
+    await page.until(async () => (await keep.keeper.cards()).every((card) => card.verdict));
     await page.run(() => {
       window.print = () => {
         window.isPrinted = true;
       };
       runAction('print');
     });
-    await page.until(
-        () => document.querySelector('#print-show')?.closest('dialog[open]'), 5000 * SLACK
-    );
+    await page.until(() => document.querySelector('#print-show')?.closest('dialog[open]'));
     const place = () => page.run(
         () => ['left', 'top']
                   .map(
@@ -1116,8 +1118,7 @@ export async function printNotes({browser, url, folder}) {
     await page.until(
         () => /“twofold”: Another picture has the same clues/.test(
             document.querySelector('dialog[open] .content').textContent
-        ),
-        5000 * SLACK
+        )
     );
     assert.equal(await trial.text('#print-small'), '', `${name}: one on each sheet`);
     assert.equal(await place(), before, `${name}: ticked`);
@@ -1129,15 +1130,14 @@ export async function printNotes({browser, url, folder}) {
       }, id, value);
       await page.until(
           () => /^The smallest cells are 2\.\d mm wide/.test(document.getElementById('print-small'
-          ).textContent),
-          5000 * SLACK
+          ).textContent)
       );
       assert.equal(await place(), before, `${name}: ${id} ${value}`);
     }
     assert.doesNotMatch(await notes(), /look alike/, name);
     await page.shot(`${folder}/print-${name}.png`);
     await page.click('dialog button.main');
-    await page.until(() => window.isPrinted, 8000 * SLACK);
+    await page.until(() => window.isPrinted);
     assert.equal(await said(page), '', `${name}: nothing stays`);
     await page.close();
   }
@@ -1181,9 +1181,7 @@ export async function sheetsBound({browser, url, folder}) {
     };
     runAction('print');
   });
-  await page.until(
-      () => document.querySelector('#print-all')?.closest('dialog[open]'), 5000 * SLACK
-  );
+  await page.until(() => document.querySelector('#print-all')?.closest('dialog[open]'));
   const change = (...ids) => page.run((fields) => {
     for (const [id, value] of fields) {
       const field = document.getElementById(id);
@@ -1202,7 +1200,7 @@ export async function sheetsBound({browser, url, folder}) {
                               )
                           );
   await change(['print-all', true]);
-  await page.until(wrong, 5000 * SLACK);  // and 50 of solutions, six on each
+  await page.until(wrong);  // and 50 of solutions, six on each
   assert.equal(
       await page.run(() => {  // as often as the margin is read
         let reads = 0;
@@ -1224,16 +1222,15 @@ export async function sheetsBound({browser, url, folder}) {
     await page.click(`dialog .buttons button:nth-child(${button}`);
     await page.until(
         () => document.querySelector('dialog[open] p.wrong[role=alert]'
-        ).textContent.startsWith('These are 350'),
-        3000 * SLACK
+        ).textContent.startsWith('These are 350')
     );
   }
   await change(['print-answers', false]);
-  await page.until(() => document.getElementById('print-small'), 20000 * SLACK);
+  await page.until(() => document.getElementById('print-small'));
   assert.equal(await page.run(wrong), undefined, 'the last that are not too many: 300');
   await change(['print-answers', true], ['print-count', '6']);
   await page.click('dialog button.main');
-  await page.until(() => window.isPrinted, 20000 * SLACK);
+  await page.until(() => window.isPrinted);
   assert.equal(await page.run(() => document.querySelectorAll('.printed').length), 100);
   assert.deepEqual(page.faults, []);
   await page.close();
@@ -1250,8 +1247,7 @@ export async function noCertificateOfTwo({browser, url, folder}) {
     if (isKnown) await trial.judged();
     await menu(page, 'export-site');
     await page.until(
-        () => /second solution.*Fix it/.test(document.getElementById('said').textContent),
-        8000 * SLACK
+        () => /second solution.*Fix it/.test(document.getElementById('said').textContent)
     );
     assert.equal(
         await page.run(() => document.getElementById('task').checkVisibility()),
@@ -1260,12 +1256,12 @@ export async function noCertificateOfTwo({browser, url, folder}) {
     );
     assert.equal(await page.run(() => bench.state.verdict.word), 'ambiguous');
     await page.click('#said button');
-    await page.until(() => !document.getElementById('fix').hidden, 3000 * SLACK);
+    await page.until(() => !document.getElementById('fix').hidden);
     assert.equal(await said(page), '');
     await menu(page, 'export-site');
-    await page.until(() => document.querySelector('#said button'), 3000 * SLACK);
+    await page.until(() => document.querySelector('#said button'));
     await page.run(() => bench.stroke(['fill 1 1 2 2 a']));
-    await page.until(() => document.getElementById('said').textContent === '', 3000 * SLACK);
+    await page.until(() => document.getElementById('said').textContent === '');
   }
   assert.deepEqual(page.faults, []);
   await page.close();

@@ -3,7 +3,7 @@
 import assert from 'node:assert/strict';
 import {writeFileSync} from 'node:fs';
 import {join} from 'node:path';
-import {fresh} from './page_hands.mjs';
+import {fresh} from './page_common.mjs';
 import {SLACK, noise, ppmOf} from './page_trial.mjs';
 import {pause} from './page_browser.mjs';
 
@@ -11,30 +11,27 @@ const blank =
     (rows,
      columns) => [...Array(rows - 1).fill('.'.repeat(columns)), `${'.'.repeat(columns - 2)}ab`];
 
-async function undo(hands) {
-  const before = await strokes(hands.trial);
-  await (hands.byKeys ? hands.page.press('Control+z') : hands.press('#quick [data-action="undo"]'));
-  await hands.page.until(
-      (count) => bench.past.length < count && !bench.running, 5000 * SLACK, before
-  );
+async function undo(user) {
+  const before = await strokes(user.trial);
+  await (user.byKeys ? user.page.press('Control+z') : user.press('#quick [data-action="undo"]'));
+  await user.page.until((count) => bench.past.length < count && !bench.running, before);
 }
 const strokes = (trial) => trial.state().then((state) => state.strokes[0]);
 
 // Chooses a symmetry: by keys m goes to the next one.
-async function symmetry(hands, kind) {
-  if (!hands.byKeys) {
-    await hands.press('#symmetry');
-    await hands.press(`[data-symmetry="${kind}"]`);
+async function symmetry(user, kind) {
+  if (!user.byKeys) {
+    await user.press('#symmetry');
+    await user.press(`[data-symmetry="${kind}"]`);
   } else
-    for (let step = 0;
-         step < 6 && await hands.page.run((wanted) => tools.symmetry !== wanted, kind);
+    for (let step = 0; step < 6 && await user.page.run((wanted) => tools.symmetry !== wanted, kind);
          step++)
-      await hands.page.press('m');
-  await hands.page.until((wanted) => tools.symmetry === wanted, 2000 * SLACK, kind);
+      await user.page.press('m');
+  await user.page.until((wanted) => tools.symmetry === wanted, kind);
 }
 
 /** Pens that draw symmetric: each stroke is one, and one undo takes it back. */
-export async function pensPoint(hands, {page, trial}) {
+export async function pensPoint(user, {page, trial}) {
   const rows = blank(6, 6);
   await trial.open(ppmOf(rows), 'pens');
   const shows = async (wanted, what) => assert.deepEqual(
@@ -45,36 +42,36 @@ export async function pensPoint(hands, {page, trial}) {
       ),
       what
   );
-  await hands.tool('pencil');
-  await hands.colour('a');
-  await symmetry(hands, 'across');
-  await hands.stroke([1, 1], [1, 2]);
+  await user.tool('pencil');
+  await user.colour('a');
+  await symmetry(user, 'across');
+  await user.stroke([1, 1], [1, 2]);
   await shows(['aa..aa', '......', '......', '......', '......', '......'], 'left and right');
   assert.equal(await strokes(trial), 1);
-  await undo(hands);
+  await undo(user);
   await shows(Array(6).fill('......'), 'one undo');
-  await symmetry(hands, 'down');
-  await hands.tool('line');
-  await hands.stroke([1, 1], [1, 4]);
+  await symmetry(user, 'down');
+  await user.tool('line');
+  await user.stroke([1, 1], [1, 4]);
   await shows(['aaaa..', '......', '......', '......', '......', 'aaaa..'], 'top and bottom');
-  await undo(hands);
-  await symmetry(hands, 'both');
-  await hands.tool('box');
-  await hands.stroke([2, 1], [3, 2]);
+  await undo(user);
+  await symmetry(user, 'both');
+  await user.tool('box');
+  await user.stroke([2, 1], [3, 2]);
   await shows(['......', 'aa..aa', 'aa..aa', 'aa..aa', 'aa..aa', '......'], 'both');
-  await hands.tool('bucket');
-  await hands.colour('b');
-  await hands.stroke([2, 1]);
+  await user.tool('bucket');
+  await user.colour('b');
+  await user.stroke([2, 1]);
   await shows(
       ['......', 'bb..bb', 'bb..bb', 'bb..bb', 'bb..bb', '....bb'],
       'the bucket too, with what is connected'
   );
-  await undo(hands);
-  await undo(hands);
-  await symmetry(hands, 'quarter');
-  await hands.colour('a');
-  await hands.tool('pencil');
-  await hands.stroke([1, 2], [1, 3]);
+  await undo(user);
+  await undo(user);
+  await symmetry(user, 'quarter');
+  await user.colour('a');
+  await user.tool('pencil');
+  await user.stroke([1, 2], [1, 3]);
   await shows(['.aa...', '.....a', '.....a', 'a.....', 'a.....', '...aab'], 'quarter turns');
   assert.equal(await strokes(trial), 1, 'one stroke');
   const inked = () => page.run(() => {
@@ -83,7 +80,7 @@ export async function pensPoint(hands, {page, trial}) {
     return data.some((one) => one > 0);
   });
   assert.equal(await inked(), true, 'the axes are shown');
-  await symmetry(hands, 'none');
+  await symmetry(user, 'none');
   assert.equal(await inked(), false, 'and go');
 }
 
@@ -91,22 +88,22 @@ export async function pensPoint(hands, {page, trial}) {
  * The wand selects what is connected; that is recoloured, moved, nudged, and cleared without what
  * lies beside it.
  */
-export async function wandPoint(hands, {page, trial}) {
+export async function wandPoint(user, {page, trial}) {
   const rows = ['.aa....', '.ab....', '..bb...', '....aa.', '.......'];
   await trial.open(ppmOf(rows), 'wand');
-  await hands.tool('wand');
-  await hands.stroke([1, 2]);
+  await user.tool('wand');
+  await user.stroke([1, 2]);
   assert.deepEqual(
       await page.run(() => [selection.box, selection.shape]),
       [{top: 0, left: 1, bottom: 1, right: 2}, ['aa', 'a ']]
   );
   assert.equal(await strokes(trial), 0);
-  if (hands.byKeys)
+  if (user.byKeys)
     await page.press('Alt+ArrowLeft', 'Enter');
   else {
-    await hands.tool('select');
-    await hands.stroke([1, 2], [1, 1]);
-    await hands.menu('edit', 'select-none');
+    await user.tool('select');
+    await user.stroke([1, 2], [1, 1]);
+    await user.menu('edit', 'select-none');
   }
   await trial.settled();
   assert.deepEqual(
@@ -114,30 +111,30 @@ export async function wandPoint(hands, {page, trial}) {
       ['aa.....', 'a.b....', '..bb...', '....aa.', '.......'],
       'the shape alone is moved'
   );
-  await undo(hands);
+  await undo(user);
   assert.deepEqual(await trial.picture(), rows);
-  await hands.tool('wand');
-  await hands.stroke([4, 5]);
-  await hands.tool('recolour');
-  await hands.colour('b');
-  await hands.stroke([4, 5]);
+  await user.tool('wand');
+  await user.stroke([4, 5]);
+  await user.tool('recolour');
+  await user.colour('b');
+  await user.stroke([4, 5]);
   assert.deepEqual(
       await trial.picture(),
       ['.aa....', '.ab....', '..bb...', '....bb.', '.......'],
       'within the selection alone'
   );
-  await undo(hands);
-  await hands.colour('a');
-  if (hands.byKeys)
+  await undo(user);
+  await user.colour('a');
+  if (user.byKeys)
     await page.press('A');
   else
-    await hands.menu('edit', 'select-colour');
-  await page.until(() => selection.box?.bottom === 3, 2000 * SLACK);
+    await user.menu('edit', 'select-colour');
+  await page.until(() => selection.box?.bottom === 3);
   assert.deepEqual(await page.run(() => selection.shape), ['aa   ', 'a    ', '     ', '   aa']);
-  if (hands.byKeys)
+  if (user.byKeys)
     await page.press('Delete');
   else
-    await hands.menu('edit', 'clear');
+    await user.menu('edit', 'clear');
   await trial.settled();
   assert.deepEqual(
       await trial.picture(),
@@ -145,8 +142,8 @@ export async function wandPoint(hands, {page, trial}) {
       'all of one colour is cleared'
   );
   assert.equal(await strokes(trial), 1, 'in one stroke');
-  await undo(hands);
-  await hands.menu('edit', 'wand-adds');  // for fingers, which have no Shift
+  await undo(user);
+  await user.menu('edit', 'wand-adds');  // for fingers, which have no Shift
   assert.equal(
       await page.run(() => document.querySelector('[data-tool="wand"]').getAttribute('aria-label')),
       'Wand adds to the selection'
@@ -158,58 +155,58 @@ export async function wandPoint(hands, {page, trial}) {
       }),
       'the tool is seen'
   );
-  await hands.stroke([1, 2]);
-  await hands.stroke([4, 5]);
+  await user.stroke([1, 2]);
+  await user.stroke([4, 5]);
   assert.deepEqual(
       await page.run(() => selection.shape),
       ['aa   ', 'a    ', '     ', '   aa'],
       'both are selected'
   );
-  await hands.menu('edit', 'wand-adds');
-  await hands.stroke([2, 3]);
+  await user.menu('edit', 'wand-adds');
+  await user.stroke([2, 3]);
   assert.deepEqual(await page.run(() => selection.shape), ['b ', 'bb'], 'and again one alone');
 }
 
 /** Outline and shadow of a selection, and nudging by one cell and by five. */
-export async function outlinePoint(hands, {page, trial}) {
+export async function outlinePoint(user, {page, trial}) {
   const rows = ['.........', '..aa.....', '..aa.....', '.........', '.........', '.......ab'];
   await trial.open(ppmOf(rows), 'outline');
-  await hands.tool('wand');
-  await hands.stroke([2, 3]);
-  await hands.colour('b');
-  await hands.menu('edit', 'outline');
+  await user.tool('wand');
+  await user.stroke([2, 3]);
+  await user.colour('b');
+  await user.menu('edit', 'outline');
   await trial.settled();
   assert.deepEqual(
       await trial.picture(),
       ['..bb.....', '.baab....', '.baab....', '..bb.....', '.........', '.......ab'],
       'outlined'
   );
-  await undo(hands);
-  await hands.menu('edit', 'shadow');
-  await page.until(() => bench.past.length === 1 && !bench.running, 5000 * SLACK);
+  await undo(user);
+  await user.menu('edit', 'shadow');
+  await page.until(() => bench.past.length === 1 && !bench.running);
   assert.deepEqual(
       await trial.picture(),
       ['.........', '..aa.....', '..aab....', '...bb....', '.........', '.......ab'],
       'with its shadow'
   );
-  await undo(hands);
-  await hands.tool('select');
-  await hands.stroke([1, 2], [3, 6]);
-  await hands.menu('edit', 'outline');
+  await undo(user);
+  await user.tool('select');
+  await user.stroke([1, 2], [3, 6]);
+  await user.menu('edit', 'outline');
   await trial.settled();
   assert.deepEqual(
       await trial.picture(),
       ['..bb.....', '.baab....', '.baab....', '..bb.....', '.........', '.......ab'],
       'of what is drawn in a rectangle'
   );
-  await undo(hands);
-  if (hands.byKeys)
+  await undo(user);
+  if (user.byKeys)
     await page.press('Alt+Shift+ArrowRight', 'Alt+ArrowDown', 'Enter');
   else
     for (const id of [...Array(5).fill('shift-right'), 'shift-down'])
-      await hands.menu('picture', id);
-  if (!hands.byKeys) await hands.menu('edit', 'select-none');
-  await page.until(() => bench.past.length === 1 && !bench.running, 5000 * SLACK);
+      await user.menu('picture', id);
+  if (!user.byKeys) await user.menu('edit', 'select-none');
+  await page.until(() => bench.past.length === 1 && !bench.running);
   assert.deepEqual(
       await trial.picture(),
       ['.........', '.........', '.......aa', '.......aa', '.........', '.......ab'],
@@ -222,7 +219,7 @@ export async function outlinePoint(hands, {page, trial}) {
  * An image is traced: it is seen where nothing is painted, it is moved and scaled, and it is in no
  * file.
  */
-export async function tracingPoint(hands, {page, trial, own}) {
+export async function tracingPoint(user, {page, trial, own}) {
   const picture = await page.run(async () => {
     const canvas = Object.assign(document.createElement('canvas'), {width: 40, height: 40});
     const pen = canvas.getContext('2d');
@@ -236,10 +233,8 @@ export async function tracingPoint(hands, {page, trial, own}) {
   writeFileSync(path, Buffer.from(picture, 'base64'));
   const rows = ['......', '.ab...', '......', '......'];
   await trial.open(ppmOf(rows), 'tracing');
-  await hands.chooseFile(() => hands.menu('view', 'trace'), path);
-  await page.until(
-      () => document.getElementById('trace') !== null && sheet.underlay !== null, 5000 * SLACK
-  );
+  await user.chooseFile(() => user.menu('view', 'trace'), path);
+  await page.until(() => document.getElementById('trace') !== null && sheet.underlay !== null);
   await page.run(() => new Promise((go) => requestAnimationFrame(() => requestAnimationFrame(go))));
   // How opaque the image is over a cell, 0 to 255.
   const over = (row, col) => page.run((r, c) => {
@@ -253,20 +248,20 @@ export async function tracingPoint(hands, {page, trial, own}) {
       [0, true, 0, 0],
       'beside the image, over background, over paint'
   );
-  await hands.tool('pencil');
-  await hands.colour('a');
-  await hands.stroke([1, 3]);
+  await user.tool('pencil');
+  await user.colour('a');
+  await user.stroke([1, 3]);
   await pause(60);
   assert.equal(await over(0, 2), 0, 'what is painted covers it');
   const place = () =>
       page.run(() => [sheet.underlay.left, sheet.underlay.top, sheet.underlay.wide]);
   const [left, top, wide] = await place();
-  await hands.press('#trace-move');
-  if (hands.byKeys)
+  await user.press('#trace-move');
+  if (user.byKeys)
     await page.press('ArrowRight', 'ArrowRight', 'ArrowRight', 'ArrowRight', 'ArrowDown');
   else {
     const [from, to] = [await trial.cell(2, 4), await trial.cell(3, 5)];
-    if (hands.input === 'mouse')
+    if (user.input === 'mouse')
       await page.drag([from, to]);
     else
       await page.touch([from, to]);
@@ -275,9 +270,9 @@ export async function tracingPoint(hands, {page, trial, own}) {
   assert.ok(
       Math.abs(moved[0] - left - 1) < 0.1 && moved[1] > top, `moved: ${[left, top]}, ${moved}`
   );
-  await hands.press('#trace-move');
-  if (hands.byKeys) {
-    await hands.tabTo('#trace-size');
+  await user.press('#trace-move');
+  if (user.byKeys) {
+    await user.tabTo('#trace-size');
     await page.press('Home');
   } else {
     await page.run(() => {
@@ -301,11 +296,10 @@ export async function tracingPoint(hands, {page, trial, own}) {
       ),
       false
   );
-  await hands.press('#trace-end');
+  await user.press('#trace-end');
   await page.until(
       () => !sheet.underlay && !document.querySelector('.underlay') &&
-          !document.getElementById('trace'),
-      2000 * SLACK
+          !document.getElementById('trace')
   );
 }
 

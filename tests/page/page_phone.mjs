@@ -3,9 +3,9 @@
 // tests/page/page_test.mjs.
 import assert from 'node:assert/strict';
 import {pause} from './page_browser.mjs';
-import {fresh, hard} from './page_hands.mjs';
-import {Hands} from './page_inputs.mjs';
-import {SIZES, SLACK, Trial, noise, ppmOf} from './page_trial.mjs';
+import {fresh, hard} from './page_common.mjs';
+import {User} from './page_inputs.mjs';
+import {SIZES, Trial, noise, ppmOf} from './page_trial.mjs';
 
 const UPRIGHT = [[390, 844], [360, 640]];
 const LYING = [[844, 390], [640, 360]];
@@ -50,9 +50,9 @@ const clue = (page, axis, line) => page.run((name, at) => {
 
 // A pinch at a point, from one distance of the fingers to another.
 async function pinch(page, [x, y], from, to) {
-  const way =
+  const track =
       (side) => [0, 0.25, 0.5, 0.75, 1].map((part) => [x + side * (from + (to - from) * part), y]);
-  await page.touch(way(-1), way(1));
+  await page.touch(track(-1), track(1));
 }
 
 /**
@@ -65,7 +65,7 @@ export async function foldedClues({browser, url, folder}) {
     const trial = await start(browser, url, folder, size);
     const {page} = trial;
     await trial.open(ppmOf(noise(120, 120, '...aabc')), 'large');
-    await trial.settled(20000);
+    await trial.settled();
     const first = await look(page);
     assert.ok(
         first.isWhole && first.isFolded && first.side >= (size[0] === 390 ? 3 : 2),
@@ -75,12 +75,11 @@ export async function foldedClues({browser, url, folder}) {
     const middle = await trial.cell(60, 60);
     await pinch(page, middle, 20, 100);
     await page.until(
-        () => !sheet.geometry.isFolded && sheet.geometry.left > 30 * sheet.geometry.scale,
-        3000 * SLACK
+        () => !sheet.geometry.isFolded && sheet.geometry.left > 30 * sheet.geometry.scale
     );
     await page.shot(`${folder}/phone-${size[0]}-near.png`);
     await pinch(page, middle, 120, 10);
-    await page.until(() => sheet.geometry.isFolded, 3000 * SLACK);
+    await page.until(() => sheet.geometry.isFolded);
     assert.deepEqual(await look(page), first, `${where}: Fit again`);
     assert.equal((await trial.state()).strokes[0], 0, `${where}: two fingers paint nothing`);
     await trial.example('heart');
@@ -100,13 +99,11 @@ export async function cluesUnderAFinger({browser, url, folder}) {
     const trial = await start(browser, url, folder, size);
     const {page} = trial;
     await trial.open(ppmOf(noise(120, 120, '...aabc')), 'large');
-    await trial.settled(20000);
+    await trial.settled();
     for (const [row, col] of [[20, 110], [110, 7]]) {
       const at = await trial.cell(row, col);
       await down(page, at);
-      await page.until(
-          () => document.querySelectorAll('.whole:not([hidden])').length === 2, 2000 * SLACK
-      );
+      await page.until(() => document.querySelectorAll('.whole:not([hidden])').length === 2);
       assert.deepEqual(
           await wholes(page, at),
           [
@@ -129,9 +126,7 @@ export async function cluesUnderAFinger({browser, url, folder}) {
       ];
     });
     await page.touch([edge]);
-    await page.until(
-        () => document.querySelectorAll('.whole:not([hidden])').length === 1, 2000 * SLACK
-    );
+    await page.until(() => document.querySelectorAll('.whole:not([hidden])').length === 1);
     assert.deepEqual(
         await wholes(page, edge),
         [[await clue(page, 'rows', 31), true, false]],
@@ -250,7 +245,7 @@ export async function tabletForFingers({browser, url, folder}) {
     await page.run(() => {
       runAction('fix');
     });
-    await page.until(() => document.querySelector('#fix-list button'), 10000 * SLACK);
+    await page.until(() => document.querySelector('#fix-list button'));
     await page.shot(`${folder}/tablet-fix-${language}-${width}.png`);
     assert.deepEqual(await small(`#fix ${pressed}`), [], `${where}: proposals`);
     const seen = await page.run(
@@ -262,13 +257,13 @@ export async function tabletForFingers({browser, url, folder}) {
       document.getElementById('fix-close').click();
     });
     await page.tap('#menus > button');
-    await page.until(() => document.querySelector('.menu:popover-open'), 3000 * SLACK);
+    await page.until(() => document.querySelector('.menu:popover-open'));
     assert.deepEqual(await small('.menu:popover-open button'), [], where);
     await page.run(() => {
       document.querySelector('.menu:popover-open').hidePopover();
       runAction('print');
     });
-    await page.until(() => document.querySelector('dialog[open] #print-show'), 5000 * SLACK);
+    await page.until(() => document.querySelector('dialog[open] #print-show'));
     assert.deepEqual(await small(`dialog[open] ${pressed}`), [], where);
     await page.press('Escape');
     const [over, wide, title] = await page.run(() => {
@@ -417,8 +412,7 @@ export async function withinThePanel({browser, url, folder}) {
     await page.run(() => setSeconds(''));
     await page.until(
         () => document.querySelectorAll('#palette button').length === 16 &&
-            !document.getElementById('task').hidden,
-        20000 * SLACK
+            !document.getElementById('task').hidden
     );
     const out = await page.run(() => {
       const panel = document.querySelector('aside');
@@ -469,14 +463,14 @@ export async function tapBehindAFlick({browser, url, folder}) {
     await page.middle(`[data-tool="${tool}"]`);
     await pause(120);
     await page.tap(`[data-tool="${tool}"]`);
-    await page.until((wanted) => tools.name === wanted, 1000 * SLACK, tool);
+    await page.until((wanted) => tools.name === wanted, tool);
   }
   await page.run(() => runAction('play'));
-  await page.until(() => document.querySelector('#play-room')?.open, 2000 * SLACK);
+  await page.until(() => document.querySelector('#play-room')?.open);
   const [x, y] = await page.middle('#play-field');
   await flick([x - 60, y], 120);
   await page.tap('#play-palette [data-letter="b"]');
-  await page.until(() => play.letter === 'b', 1000 * SLACK);
+  await page.until(() => play.letter === 'b');
   assert.deepEqual(page.faults, []);
   await page.close();
 }
@@ -487,7 +481,7 @@ const turned = async (page, [width, height]) => {
   await page.send(
       'Emulation.setDeviceMetricsOverride', {width, height, deviceScaleFactor: 2, mobile: true}
   );
-  await page.until((wide) => innerWidth === wide, 2000 * SLACK, width);
+  await page.until((wide) => innerWidth === wide, width);
   await page.run(
       () => new Promise((go) => requestAnimationFrame(() => requestAnimationFrame(() => go())))
   );
@@ -509,8 +503,7 @@ const field = (page) => page.run(() => {
   );
   return {side: play.side, isWhole, isLarge: play.side >= Math.min(64, room - 2), top};
 });
-const inPlayer = (page) =>
-    page.until(() => document.getElementById('play-room')?.open, 5000 * SLACK);
+const inPlayer = (page) => page.until(() => document.getElementById('play-room')?.open);
 
 /**
  * The player's grid fits a phone that is turned and a window that grows; a size that was chosen by
@@ -630,7 +623,7 @@ export async function solutionIsAskedFor({browser, url, folder}) {
     });
     await inPlayer(page);
     await page.tap('#play-walk');
-    await page.until(() => !document.getElementById('walk-bar').hidden, 5000 * SLACK);
+    await page.until(() => !document.getElementById('walk-bar').hidden);
     assert.equal(await asked(), '', 'the designer sees it');
     const link = await page.run(() => fragmentOf(bench.state, 'play'));
     await page.goto('about:blank');
@@ -638,9 +631,7 @@ export async function solutionIsAskedFor({browser, url, folder}) {
     await inPlayer(page);
     for (const [answer, isHidden] of [['button:not(.main)', true], ['button.main', false]]) {
       await page.tap('#play-walk');
-      await page.until(
-          () => document.querySelector('#dialogs dialog:not(#play-room) button.main'), 5000 * SLACK
-      );
+      await page.until(() => document.querySelector('#dialogs dialog:not(#play-room) button.main'));
       assert.match(await asked(), text);
       assert.equal(
           await page.run(() => document.getElementById('walk-bar').hidden),
@@ -648,16 +639,14 @@ export async function solutionIsAskedFor({browser, url, folder}) {
           'nothing is shown yet'
       );
       await page.tap(`#dialogs dialog:not(#play-room) ${answer}`);
-      await page.until(
-          () => !document.querySelector('#dialogs dialog:not(#play-room)'), 3000 * SLACK
-      );
+      await page.until(() => !document.querySelector('#dialogs dialog:not(#play-room)'));
       assert.equal(
           await page.run(() => document.getElementById('walk-bar').hidden), isHidden, answer
       );
     }
     await page.tap('#walk-end');
     await page.tap('#play-walk');
-    await page.until(() => !document.getElementById('walk-bar').hidden, 5000 * SLACK);
+    await page.until(() => !document.getElementById('walk-bar').hidden);
     assert.equal(await asked(), '', 'once');
     assert.deepEqual(page.faults, []);
     await page.close();
@@ -679,7 +668,7 @@ export async function tourOfTheBalloon({browser, url, folder}) {
       await page.run(() => {
         runAction('tour');
       });
-      await page.until(() => document.querySelector('#tour:popover-open'), 5000 * SLACK);
+      await page.until(() => document.querySelector('#tour:popover-open'));
       assert.equal(await trial.judged(), 'ambiguous');
       const texts = new Set();
       for (let mark = 1; mark <= 5; mark++) {
@@ -721,9 +710,9 @@ export async function marksStay({browser, url, folder}) {
   await page.goto(url + link);
   await inPlayer(page);
   const marks = () => page.run(() => play.marks.map((row) => row.join('')).join());
-  const hands = new Hands(page, trial, 'touch');
-  await hands.mark('a', [[1, 1]]);
-  await hands.mark('.', [[1, 2]]);
+  const user = new User(page, trial, 'touch');
+  await user.mark('a', [[1, 1]]);
+  await user.mark('.', [[1, 2]]);
   const seen = await page.run(() => {
     const pen = document.getElementById('play-field').getContext('2d');
     const side = play.side * devicePixelRatio;
@@ -739,22 +728,20 @@ export async function marksStay({browser, url, folder}) {
   await inPlayer(page);
   assert.equal(await marks(), 'a.,??,??');
   assert.match(await trial.text('#play-said'), /^Your marks are as you left them\. One solution/);
-  await hands.press('#play-clear');
+  await user.press('#play-clear');
   assert.equal(await marks(), '??,??,??');
   assert.match(await trial.text('#play-said'), /Undo brings them back/);
-  await hands.press('#play-undo');
+  await user.press('#play-undo');
   assert.equal(await marks(), 'a.,??,??');
-  await hands.mark('a', [[2, 1]]);
+  await user.mark('a', [[2, 1]]);
   for (const [press, text] of [
            ['#play-check', '1 cell is wrong.'],
            ['#play-hint', '1 cell is wrong. Check shows which.']]) {
-    await hands.press(press);
-    await page.until(
-        (wanted) => document.getElementById('play-said').textContent === wanted, 5000 * SLACK, text
-    );
+    await user.press(press);
+    await page.until((wanted) => document.getElementById('play-said').textContent === wanted, text);
   }
-  await hands.press('#play-undo');
-  await hands.mark('b', [[2, 2], [3, 1], [3, 2]]);
+  await user.press('#play-undo');
+  await user.mark('b', [[2, 2], [3, 1], [3, 2]]);
   assert.match(await trial.text('#play-said'), /^Solved/);
   await page.reload();
   await inPlayer(page);
@@ -780,28 +767,26 @@ const darkIn = (page, row, col, inset) => page.run((r, c, part) => {
 export async function solvedIsPlain({browser, url, folder}) {
   const trial = await start(browser, url, folder, UPRIGHT[0]);
   const {page} = trial;
-  await trial.open(ppmOf(['a.', 'aa'], {'.': '255 255 255', a: '255 210 40'}), 'pale');
+  await trial.open(ppmOf(['a.', 'aa'], {'.': '255 255 255', a: '255 250 225'}), 'pale');
   await page.run(() => {
     runAction('play');
   });
   await inPlayer(page);
-  const hands = new Hands(page, trial, 'touch');
-  await hands.mark('a', [[1, 1]]);
-  await hands.mark('.', [[1, 2]]);
+  const user = new User(page, trial, 'touch');
+  await user.mark('a', [[1, 1]]);
+  await user.mark('.', [[1, 2]]);
   assert.equal(await darkIn(page, 1, 1, 0.15), 0, 'no square in the cell');
   assert.ok(await darkIn(page, 1, 1, 0.02) > 0, 'but an edge');
   assert.ok(await darkIn(page, 1, 2, 0.15) > 0, 'a cross');
-  await hands.press('#play-help');
-  await page.until(
-      () => /gets an edge/.test(document.querySelector('dialog .help').textContent), 3000 * SLACK
-  );
+  await user.press('#play-help');
+  await page.until(() => /gets an edge/.test(document.querySelector('dialog .help').textContent));
   await page.run(() => document.querySelector('dialog:has(.help)').close());
-  await hands.mark('a', [[2, 1], [2, 2]]);
+  await user.mark('a', [[2, 1], [2, 2]]);
   assert.match(await trial.text('#play-said'), /^Solved/);
   for (const [row, col] of [[1, 1], [1, 2], [2, 1], [2, 2]])
     assert.equal(await darkIn(page, row, col, 0.06), 0, `row ${row}, column ${col} is plain`);
   await page.shot(`${folder}/player-solved.png`);
-  await hands.press('#play-undo');
+  await user.press('#play-undo');
   assert.ok(await darkIn(page, 1, 2, 0.15) > 0, 'the cross is back');
   assert.deepEqual(page.faults, []);
   await page.close();
@@ -813,10 +798,8 @@ export async function siteIsExplained({browser, url, folder}) {
   const {page} = trial;
   await trial.example('heart');
   await page.tap('[popovertarget="menu-file"]');
-  await page.until(
-      () => document.querySelector('#menu-file [data-action="export-site"]'), 3000 * SLACK
-  );
-  const told = await page.run(() => {
+  await page.until(() => document.querySelector('#menu-file [data-action="export-site"]'));
+  const text = await page.run(() => {
     const [item, note] = ['', ' small'].map(
         (one) => document.querySelector(`#menu-file [data-action="export-site"]${one}`)
     );
@@ -825,7 +808,7 @@ export async function siteIsExplained({browser, url, folder}) {
     return inner.left >= outer.left && inner.right <= outer.right && inner.bottom <= outer.bottom &&
         note.textContent;
   });
-  assert.match(String(told), /^For a site that publishes your puzzle/);
+  assert.match(String(text), /^For a site that publishes your puzzle/);
   assert.deepEqual(page.faults, []);
   await page.close();
 }
@@ -837,7 +820,7 @@ export async function siteIsExplained({browser, url, folder}) {
 export async function fingersAreTold({browser, url, folder}) {
   const trial = await start(browser, url, folder, UPRIGHT[0]);
   const {page} = trial;
-  const told = [await trial.text('#start [aria-labelledby="open-title"] p')];
+  const texts = [await trial.text('#start [aria-labelledby="open-title"] p')];
   await trial.example('apple');
   const names = await page.run(
       () => [...document.querySelectorAll('button')].filter(
@@ -861,20 +844,20 @@ export async function fingersAreTold({browser, url, folder}) {
   await page.run(() => document.getElementById('play-walk').click());
   cut.push(...await beyond());
   await page.run(() => document.getElementById('play-help').click());
-  told.push(await trial.text('dialog .help'));
+  texts.push(await trial.text('dialog .help'));
   await page.run(() => {
     for (const one of document.querySelectorAll('dialog')) one.close();
     runAction('guide');
   });
-  told.push(await trial.text('dialog .help'));
+  texts.push(await trial.text('dialog .help'));
   await page.run(() => {
     document.querySelector('dialog').close();
     const canvas = document.createElement('canvas');
     canvas.getContext('2d').fillRect(9, 9, 90, 90);
     canvas.toBlob((blob) => takeFile(new File([blob], 'image.png')));
   });
-  await page.until(() => document.querySelector('.importing figcaption'), 5000 * SLACK);
-  told.push(await page.run(() => {
+  await page.until(() => document.querySelector('.importing figcaption'));
+  texts.push(await page.run(() => {
     const one = document.querySelector('.importing figcaption');
     return one.checkVisibility() ? one.textContent : '';
   }));
@@ -886,7 +869,7 @@ export async function fingersAreTold({browser, url, folder}) {
     /A certificate proves/,
     /Tap a colour to keep it/
   ];
-  for (const [at, text] of wanted.entries()) assert.match(told[at], text);
+  for (const [at, text] of wanted.entries()) assert.match(texts[at], text);
   assert.deepEqual(page.faults, []);
   await page.close();
 }

@@ -4,21 +4,28 @@ import assert from 'node:assert/strict';
 import {readFileSync} from 'node:fs';
 import {fileURLToPath} from 'node:url';
 import {bookPoint} from './page_books.mjs';
-import {clean, downloaded, examples, fresh, hard, isKept, isOpen} from './page_hands.mjs';
-import {Hands} from './page_inputs.mjs';
+import {clean, downloaded, examples, fresh, hard, isKept, isOpen} from './page_common.mjs';
+import {User} from './page_inputs.mjs';
 import {choosingPoint, palettesPoint, slidingPoint, visionPoint} from './page_coming.mjs';
-import {curvePoint, filmPoint} from './page_course.mjs';
+import {curvePoint, filmPoint, laterPoint} from './page_course.mjs';
 import {frenchPoint, germanPoint, mirroredPoint} from './page_languages.mjs';
 import {aimPoint, firstPoint, mendingPoint, walkingPoint} from './page_mending.mjs';
 import {othersPoint, printPoint} from './page_out.mjs';
-import {alikePoint, comingPoint, contactsPoint, pickingPoint, spritesPoint, tablePoint} from './page_pictures.mjs';
+import {
+  alikePoint,
+  comingPoint,
+  contactsPoint,
+  pickingPoint,
+  spritesPoint,
+  tablePoint
+} from './page_pictures.mjs';
 import {outlinePoint, pensPoint, tracingPoint, wandPoint} from './page_pens.mjs';
 import {stillPoint} from './page_lasting.mjs';
 import {smallPoint, typingPoint} from './page_marks.mjs';
 import {limitsPoint, placesPoint} from './page_repairs.mjs';
 import {linkPoint, offlinePoint, playerPoint, severalPoint} from './page_sharing.mjs';
 import {safePoint} from './page_safe.mjs';
-import {SIZES, SLACK, noise, ppmOf} from './page_trial.mjs';
+import {SIZES, noise, ppmOf} from './page_trial.mjs';
 import {segmentsPoint} from './page_two.mjs';
 import {turningPoint} from './page_turning.mjs';
 import {pause} from './page_browser.mjs';
@@ -26,123 +33,117 @@ import {pause} from './page_browser.mjs';
 const PAIR = ['a.....', '.a....', '......', '...aaa', '...aaa', '...aaa'];
 const pathOf = (name) => fileURLToPath(new URL(name, examples));
 const textOf = (name) => readFileSync(new URL(name, examples), 'utf8');
-const goOn = (hands) => hands.press('#kept .kept').then(() => isOpen(hands.page));
+const goOn = (user) => user.press('#kept .kept').then(() => isOpen(user.page));
 const isNarrow = (page) =>
     page.run(() => document.getElementById('verdict-open').checkVisibility());
-const moreOf = async (hands) => {
-  if (await isNarrow(hands.page)) await hands.press('#verdict-open');
+const moreOf = async (user) => {
+  if (await isNarrow(user.page)) await user.press('#verdict-open');
 };
 
 /** From the start screen: a new picture, the one of before, and a file. */
-async function wayIn(hands) {
-  const {page, trial} = hands;
-  await hands.fill('#new-columns', '9');
-  await hands.fill('#new-rows', '7');
-  await hands.press('#new-go');
+async function wayIn(user) {
+  const {page, trial} = user;
+  await user.fill('#new-columns', '9');
+  await user.fill('#new-rows', '7');
+  await user.press('#new-go');
   await isOpen(page);
-  await hands.stroke([2, 3]);
+  await user.stroke([2, 3]);
   assert.deepEqual(
       await trial.picture(), ['.........', '..a......', ...Array(5).fill('.........')]
   );
   await isKept(page);
   await trial.load();
-  await goOn(hands);
+  await goOn(user);
   assert.equal((await trial.picture())[1], '..a......');
-  await hands.menu('file', 'new');
-  await hands.chooseFile(() => hands.press('#open-go'), pathOf('flower.ppm'));
-  await page.until(() => bench.name === 'flower', 5000 * SLACK);
+  await user.menu('file', 'new');
+  await user.chooseFile(() => user.press('#open-go'), pathOf('flower.ppm'));
+  await page.until(() => bench.name === 'flower');
 }
 
 /** A PNG becomes a puzzle of the size and with the colours that are chosen. */
-async function intoPuzzle(hands) {
-  const {page, trial} = hands;
+async function intoPuzzle(user) {
+  const {page, trial} = user;
   const facts = (wanted) => page.until(
-      (text) => document.querySelector('#import-facts')?.textContent.includes(text),
-      8000 * SLACK,
-      wanted
+      (text) => document.querySelector('#import-facts')?.textContent.includes(text), wanted
   );
-  await hands.chooseFile(() => hands.press('#open-go'), pathOf('duck.png'));
+  await user.chooseFile(() => user.press('#open-go'), pathOf('duck.png'));
   await facts('10 by 10 cells, 4 colours');
-  await hands.fill('#import-columns', '20');
+  await user.fill('#import-columns', '20');
   await facts('20 by 20 cells, 4 colours');
-  if (hands.byKeys) {
-    await hands.tabTo('#import-colours');
+  if (user.byKeys) {
+    await user.tabTo('#import-colours');
     await page.press('ArrowLeft', 'ArrowLeft');
   } else {
     const [x, y] = await page.middle('#import-colours');
     const left = await page.run(
         () => document.querySelector('#import-colours').getBoundingClientRect().left
     );
-    if (hands.input === 'mouse')
+    if (user.input === 'mouse')
       await page.drag([[left + 3, y]]);
     else
       await page.touch([[x, y], [left + 3, y], [left + 3, y]]);
   }
   await facts('20 by 20 cells, 2 colours');
-  await hands.press('#import-trim');
-  await hands.fill('#import-columns', '10');
+  await user.press('#import-trim');
+  await user.fill('#import-columns', '10');
   await facts('10 by 10 cells, 2 colours');
-  await hands.press('dialog button.main');
+  await user.press('dialog button.main');
   await isOpen(page);
   const {rows, columns, colours} = await trial.state();
   assert.deepEqual([rows, columns, colours.length], [10, 10, 2]);
   await page.until(
-      () => document.getElementById('said').textContent.includes('was made from the image'),
-      3000 * SLACK
+      () => document.getElementById('said').textContent.includes('was made from the image')
   );
 }
 
 /** A reload loses nothing, strokes are taken back behind it, and the work goes to a file. */
-async function neverLost(hands, {own}) {
-  const {page, trial} = hands;
-  await hands.press('#new-go');
+async function neverLost(user, {own}) {
+  const {page, trial} = user;
+  await user.press('#new-go');
   await isOpen(page);
-  await hands.stroke([3, 4], [3, 7]);
-  await hands.stroke([5, 5]);
+  await user.stroke([3, 4], [3, 7]);
+  await user.stroke([5, 5]);
   await isKept(page);
   await trial.load();
   assert.ok(page.dialogs.includes('beforeunload'), 'the browser asks before it leaves');
-  await goOn(hands);
+  await goOn(user);
   const rows = await trial.picture();
   assert.deepEqual([rows[2], rows[4]], ['...aaaa.............', '....a...............']);
-  await hands.undo();
-  await hands.undo();
+  await user.undo();
+  await user.undo();
   assert.equal((await trial.picture()).join('').replaceAll('.', ''), '', 'taken back');
-  if (hands.byKeys)
+  if (user.byKeys)
     await page.press('Control+s');
   else
-    await hands.menu('file', 'save');
+    await user.menu('file', 'save');
   assert.match((await downloaded(page, own, '.xml')).content.toString(), /<puzzleset>/);
 }
 
 /** A search that does not end is stopped, and a stroke ends one too. */
-async function stoppable(hands) {
-  const {page, trial} = hands;
+async function stoppable(user) {
+  const {page, trial} = user;
   await trial.open(hard(), 'hard');
-  await moreOf(hands);
-  await hands.choose('#seconds', '');
+  await moreOf(user);
+  await user.choose('#seconds', '');
   await page.until(
       () => !document.getElementById('task').hidden &&
-          /^[1-9]/.test(document.getElementById('task-time').textContent),
-      8000 * SLACK
+          /^[1-9]/.test(document.getElementById('task-time').textContent)
   );
-  if (hands.byKeys)
+  if (user.byKeys)
     await page.press('.');
   else
-    await hands.press('#stop');
-  await page.until(
-      () => document.getElementById('task').hidden && searches.running === null, 400 * SLACK
-  );
+    await user.press('#stop');
+  await page.until(() => document.getElementById('task').hidden && searches.running === null);
   assert.match(await trial.text('#verdict'), /Undecided/);
-  await hands.press('#verdict-do [data-action="search"]');
-  await page.until(() => searches.running !== null, 3000 * SLACK);
-  if (await isNarrow(page)) await hands.press('#verdict-open');
+  await user.press('#verdict-do [data-action="search"]');
+  await page.until(() => searches.running !== null);
+  if (await isNarrow(page)) await user.press('#verdict-open');
   const [before, version] = await page.run(() => [bench.state.picture.join(), searches.version]);
-  await hands.tool('pencil');
-  await hands.colour('a');
-  await hands.stroke([30, 30]);
-  await hands.colour('b');
-  await hands.stroke([30, 30]);
+  await user.tool('pencil');
+  await user.colour('a');
+  await user.stroke([30, 30]);
+  await user.colour('b');
+  await user.stroke([30, 30]);
   assert.ok(await page.run((from) => searches.version > from, version), 'what ran is ended');
   assert.notEqual((await trial.picture()).join(), before);
   await page.run(() => {
@@ -152,59 +153,59 @@ async function stoppable(hands) {
 }
 
 /** Tools, the selection, undo by stroke, the menu Picture. */
-async function drawing(hands) {
-  const {page, trial} = hands;
+async function drawing(user) {
+  const {page, trial} = user;
   const rows = [...Array(6).fill('.........'), '.......ab'];
   const shows = async (wanted, what) => assert.deepEqual(await trial.picture(), wanted, what);
   await trial.open(ppmOf(rows), 'tools');
   const at = (wanted) => rows.map((row, index) => wanted[index] ?? row);
-  await hands.tool('line');
-  await hands.colour('a');
-  await hands.stroke([1, 1], [1, 9]);
-  await hands.tool('rectangle');
-  await hands.colour('b');
-  await hands.stroke([3, 2], [5, 5]);
+  await user.tool('line');
+  await user.colour('a');
+  await user.stroke([1, 1], [1, 9]);
+  await user.tool('rectangle');
+  await user.colour('b');
+  await user.stroke([3, 2], [5, 5]);
   await shows(
       at({0: 'aaaaaaaaa', 2: '.bbbb....', 3: '.b..b....', 4: '.bbbb....'}), 'line and outline'
   );
-  await hands.tool('bucket');
-  await hands.colour('a');
-  await hands.stroke([4, 3]);
-  await hands.tool('box');
-  await hands.stroke([3, 7], [4, 8]);
-  await hands.tool('pencil');
-  await hands.stroke([6, 1], [6, 3]);
+  await user.tool('bucket');
+  await user.colour('a');
+  await user.stroke([4, 3]);
+  await user.tool('box');
+  await user.stroke([3, 7], [4, 8]);
+  await user.tool('pencil');
+  await user.stroke([6, 1], [6, 3]);
   const drawn =
       at({0: 'aaaaaaaaa', 2: '.bbbb.aa.', 3: '.baab.aa.', 4: '.bbbb....', 5: 'aaa......'});
   await shows(drawn, 'bucket, filled rectangle, pencil');
-  await hands.tool('select');
-  await hands.stroke([3, 7], [4, 8]);
-  if (hands.byKeys)
+  await user.tool('select');
+  await user.stroke([3, 7], [4, 8]);
+  if (user.byKeys)
     await page.press('Alt+ArrowDown', 'Enter');
   else {
-    await hands.stroke([3, 7], [4, 7]);
-    await hands.stroke([7, 1]);
+    await user.stroke([3, 7], [4, 7]);
+    await user.stroke([7, 1]);
   }
   await trial.settled();
   const moved =
       at({0: 'aaaaaaaaa', 2: '.bbbb....', 3: '.baab.aa.', 4: '.bbbb.aa.', 5: 'aaa......'});
   await shows(moved, 'moved');
-  await hands.menu('edit', 'select-none');
-  await hands.menu('picture', 'mirror-across');
+  await user.menu('edit', 'select-none');
+  await user.menu('picture', 'mirror-across');
   await trial.settled();
   await shows(moved.map((row) => [...row].reverse().join('')), 'mirrored');
-  await hands.menu('picture', 'turn-right');
+  await user.menu('picture', 'turn-right');
   await trial.settled();
   assert.deepEqual((await trial.picture()).length, 9, 'turned');
-  for (let turn = 0; turn < 8; turn++) await hands.undo();
+  for (let turn = 0; turn < 8; turn++) await user.undo();
   await shows(rows, 'a stroke for each undo');
 }
 
 /** Fit, zoom, moving the view, and the way to the next cell. */
-async function large(hands) {
-  const {page, trial} = hands;
+async function large(user) {
+  const {page, trial} = user;
   await trial.open(ppmOf(noise(120, 120, '.ab')), 'large');
-  await trial.settled(20000);
+  await trial.settled();
   const look = () => page.run(() => ({
                                 side: sheet.geometry.cell / sheet.geometry.scale,
                                 x: sheet.geometry.panX,
@@ -215,9 +216,9 @@ async function large(hands) {
   const first = await look();
   assert.ok(first.side >= 3 && first.whole, JSON.stringify(first));
   const [x, y] = await trial.cell(60, 60);
-  if (hands.byKeys)
+  if (user.byKeys)
     await page.press(...Array(8).fill('+'));
-  else if (hands.input === 'mouse')
+  else if (user.input === 'mouse')
     for (let turn = 0; turn < 8; turn++) await page.mouse('mouseWheel', x, y, {wheel: [0, -100]});
   else
     await page.touch(
@@ -226,13 +227,12 @@ async function large(hands) {
   await page.until(
       (from) => sheet.geometry.cell / sheet.geometry.scale > from + 3 &&
           !document.getElementById('minimap').hidden,
-      3000 * SLACK,
       first.side
   );
   const zoomed = await look();
-  if (hands.byKeys)
-    await hands.goTo(110, 110);
-  else if (hands.input === 'mouse')
+  if (user.byKeys)
+    await user.goTo(110, 110);
+  else if (user.input === 'mouse')
     await page.drag([[x, y], [x - 80, y - 40]], {button: 'middle'});
   else
     await page.touch(
@@ -244,10 +244,10 @@ async function large(hands) {
   assert.ok(moved.x > zoomed.x && moved.y > zoomed.y, 'the view is moved');
   assert.equal((await trial.state()).strokes[0], 0, 'and nothing painted');
   const from = await page.run(() => `${cursor.row} ${cursor.col}`);
-  if (hands.byKeys)
+  if (user.byKeys)
     await page.press('n');
   else
-    await hands.menu('view', 'next');
+    await user.menu('view', 'next');
   assert.ok(
       await page.run(
           (before) => `${cursor.row} ${cursor.col}` !== before &&
@@ -256,54 +256,52 @@ async function large(hands) {
       ),
       'the next cell'
   );
-  if (hands.byKeys)
+  if (user.byKeys)
     await page.press('z');
   else
-    await hands.press('#zoom [data-action="fit"]');
-  await page.until(
-      (side) => sheet.geometry.cell / sheet.geometry.scale === side, 2000 * SLACK, first.side
-  );
+    await user.press('#zoom [data-action="fit"]');
+  await page.until((side) => sheet.geometry.cell / sheet.geometry.scale === side, first.side);
 }
 
 /** Hatching, the other picture, Fix it, Play. */
-async function meaning(hands) {
-  const {page, trial} = hands;
+async function meaning(user) {
+  const {page, trial} = user;
   await trial.open(ppmOf(PAIR), 'pair');
   assert.equal(await trial.judged(), 'ambiguous');
-  await moreOf(hands);
-  await hands.choose('#hatching', 'off');
+  await moreOf(user);
+  await user.choose('#hatching', 'off');
   assert.equal(await page.run(() => sheet.hatching), 'off');
   for (const wanted of [true, false]) {
-    if (hands.byKeys)
+    if (user.byKeys)
       await page.press('x');
     else
-      await hands.press('#verdict-do [data-action="other"]');
+      await user.press('#verdict-do [data-action="other"]');
     assert.equal(await page.run(() => sheet.other), wanted, 'the other picture');
   }
-  await hands.press('#verdict-do [data-action="fix"]');
-  await hands.press('#fix-give');
-  await page.until(() => bench.state.givens.size > 0, 8000 * SLACK);
+  await user.press('#verdict-do [data-action="fix"]');
+  await user.press('#fix-give');
+  await page.until(() => bench.state.givens.size > 0);
   assert.equal(await trial.judged(), 'unique');
-  await hands.undo();
+  await user.undo();
   assert.equal((await trial.state()).givens.length, 0, 'one undo takes it back');
   await trial.open(ppmOf(['aa.', '.bb', 'a.a']), 'small');
   await trial.judged();
-  await moreOf(hands);  // the proposals had closed it
-  await hands.press('#verdict-do [data-action="play"]');
-  await page.until(() => document.querySelector('#play-room')?.open, 3000 * SLACK);
-  await hands.mark('b', [[2, 2], [2, 3]]);
-  await hands.mark('a', [[1, 1], [1, 2], [3, 1], [3, 3]]);
+  await moreOf(user);  // the proposals had closed it
+  await user.press('#verdict-do [data-action="play"]');
+  await page.until(() => document.querySelector('#play-room')?.open);
+  await user.mark('b', [[2, 2], [2, 3]]);
+  await user.mark('a', [[1, 1], [1, 2], [3, 1], [3, 3]]);
   assert.match(await trial.text('#play-said'), /^Solved/);
-  if (hands.byKeys)
+  if (user.byKeys)
     await page.press('Escape');
   else
-    await hands.press('#play-close');
-  await page.until(() => !document.querySelector('#play-room'), 3000 * SLACK);
+    await user.press('#play-close');
+  await page.until(() => !document.querySelector('#play-room'));
 }
 
 /** XML out and in again, pictures, the certificate, and the sheet. */
-async function wayOut(hands, {own}) {
-  const {page, trial} = hands;
+async function wayOut(user, {own}) {
+  const {page, trial} = user;
   await trial.open(textOf('heart.ppm'), 'heart');
   assert.equal(await trial.judged(), 'unique');
   const before = await trial.state();
@@ -313,15 +311,13 @@ async function wayOut(hands, {own}) {
            ['export-picture', '-picture.png'],
            ['certificate', '.cert'],
            ['export-ppm', '.ppm']]) {
-    await hands.menu('file', id);
+    await user.menu('file', id);
     await downloaded(page, own, ending);
     assert.match(await trial.text('#said'), /saved/, `${id} is told`);
   }
-  await hands.chooseFile(() => hands.menu('file', 'open'), `${own}/heart.xml`);
-  await page.until(
-      () => bench.state?.about.source === 'nonobench', 5000 * SLACK
-  );  // only the file has that
-  await page.until(() => bench.past.length === 0 && saving.form === 'xml', 5000 * SLACK);
+  await user.chooseFile(() => user.menu('file', 'open'), `${own}/heart.xml`);
+  await page.until(() => bench.state?.about.source === 'nonobench');  // only the file has that
+  await page.until(() => bench.past.length === 0 && saving.form === 'xml');
   await trial.judged();
   const after = await trial.state();
   assert.deepEqual([after.picture, after.colours], [before.picture, before.colours]);
@@ -330,13 +326,11 @@ async function wayOut(hands, {own}) {
       window.isPrinted = true;
     };
   });
-  await hands.menu('file', 'print');
-  await page.until(() => document.querySelector('#print-show'), 3000 * SLACK);
-  await hands.choose('#print-show', 'letters');
-  await hands.press('dialog button.main');
-  await page.until(
-      () => window.isPrinted && document.querySelectorAll('.printed').length === 2, 5000 * SLACK
-  );
+  await user.menu('file', 'print');
+  await page.until(() => document.querySelector('#print-show'));
+  await user.choose('#print-show', 'letters');
+  await user.press('dialog button.main');
+  await page.until(() => window.isPrinted && document.querySelectorAll('.printed').length === 2);
   assert.ok(
       await page.run(
           () => [...document.querySelectorAll('.printed text')].some(
@@ -380,6 +374,7 @@ const POINTS = {
   'the solving path': walkingPoint,
   'film strip': filmPoint,
   'difficulty curve': curvePoint,
+  'known later': laterPoint,
   'what can turn': turningPoint,
   'out of the page': wayOut,
   'what others get': othersPoint,
@@ -423,7 +418,7 @@ export const tests = Object.fromEntries(Object.entries(POINTS).flatMap(
                try {
                  await clean(page);
                  await trial.load();
-                 await act(new Hands(page, trial, input), {page, trial, own, folder});
+                 await act(new User(page, trial, input), {page, trial, own, folder});
                  assert.deepEqual(page.faults, []);
                } catch (fault) {
                  await page

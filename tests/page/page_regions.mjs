@@ -3,7 +3,15 @@
 import assert from 'node:assert/strict';
 import {test} from 'node:test';
 import '../../page/test/limits.mjs';
-import {boxAround, outlineOf, placesOfLetter, placesOfShape, shadowOf, shapeOf, without} from '../../page/document/regions.js';
+import {
+  boxAround,
+  outlineOf,
+  placesOfLetter,
+  placesOfShape,
+  shadowOf,
+  shapeOf,
+  without
+} from '../../page/document/regions.js';
 import {stamped} from '../../page/document/shapes.js';
 import {SYMMETRIES, cellsWith, isPossible} from '../../page/document/symmetry.js';
 

@@ -1,8 +1,8 @@
 // Trials of the safe brush: dots where painting would cost the one solution, and strokes that paint
 // only what does not.
 import assert from 'node:assert/strict';
-import {fresh, said} from './page_hands.mjs';
-import {SLACK, ppmOf} from './page_trial.mjs';
+import {fresh, said} from './page_common.mjs';
+import {ppmOf} from './page_trial.mjs';
 
 // One cell in its corner: with that across from it there are two solutions, and with one beside it
 // there is one. With three cells there is one, too.
@@ -10,32 +10,30 @@ const CORNER = ['a.', '..'];
 const CTRL = 2;
 
 const warned = (page) => page.run(() => [...sheet.warned]);
-const isWarned = (page, marks) => page.until(
-    (wanted) => JSON.stringify([...sheet.warned]) === wanted, 20000 * SLACK, JSON.stringify(marks)
-);
-const isPicture = (page, rows) => page.until(
-    (wanted) => bench.state.picture.join() === wanted && !bench.running, 20000 * SLACK, rows.join()
-);
+const isWarned = (page, marks) =>
+    page.until((wanted) => JSON.stringify([...sheet.warned]) === wanted, JSON.stringify(marks));
+const isPicture = (page, rows) =>
+    page.until((wanted) => bench.state.picture.join() === wanted && !bench.running, rows.join());
 
 /** The dot, a stroke that leaves its cell out, and one that may paint it. */
-export async function safePoint(hands, {page, trial}) {
+export async function safePoint(user, {page, trial}) {
   await trial.open(ppmOf(CORNER), 'corner');
   await trial.judged();
-  await hands.menu('view', 'safe-dots');
+  await user.menu('view', 'safe-dots');
   await isWarned(page, [[3, 'breaks']]);
-  await hands.menu('edit', 'safe-only');
-  await hands.stroke([2, 2], [1, 2]);
+  await user.menu('edit', 'safe-only');
+  await user.stroke([2, 2], [1, 2]);
   await isPicture(page, ['aa', '..']);
   assert.match(await said(page), /^1 cell was not painted/);
   await isWarned(page, []);
-  await hands.stroke([2, 2]);
+  await user.stroke([2, 2]);
   await isPicture(page, ['aa', '.a']);
-  await hands.undo();
-  await hands.undo();
+  await user.undo();
+  await user.undo();
   await isPicture(page, CORNER);
   await isWarned(page, [[3, 'breaks']]);
-  await hands.menu('edit', 'safe-only');
-  await hands.stroke([2, 2]);
+  await user.menu('edit', 'safe-only');
+  await user.stroke([2, 2]);
   await isPicture(page, ['a.', '.a']);
   assert.equal(await trial.judged(), 'ambiguous');
   await isWarned(page, []);
@@ -56,9 +54,7 @@ export async function safeKey({browser, url, folder}) {
   await isPicture(page, ['a.', '.a']);
   await trial.judged();
   await page.drag([beside], {keys: CTRL});
-  await page.until(
-      () => /^Nothing was painted/.test(document.getElementById('said').textContent), 20000 * SLACK
-  );
+  await page.until(() => /^Nothing was painted/.test(document.getElementById('said').textContent));
   await isPicture(page, ['a.', '.a']);
   await page.close();
 }
@@ -74,7 +70,7 @@ export async function safeWaits({browser, url, folder}) {
   await trial.drag([[5, 6]]);
   assert.equal((await trial.picture())[4].slice(3, 7), '.aa.');
   // Two cells in row 5 and one in row 6, column 7, may also be columns 6 and 7, and column 5.
-  await page.until(() => sheet.warned.get(156) === 'breaks', 60000 * SLACK);
+  await page.until(() => sheet.warned.get(156) === 'breaks');
   assert.equal(await page.run(() => sheet.warned.has(5 * 30 + 5)), false, 'below the second cell');
   await page.close();
 }

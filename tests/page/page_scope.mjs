@@ -1,5 +1,6 @@
-// Tests of the page's modules as a house: each says what it is and is short, rooms ask only rooms
-// below them, and nothing is taken as HTML or fetched. Run: node --test tests/page/page_scope.mjs
+// Tests of the page's modules as a house: each says what it is and is short, folders ask only
+// folders below them, and nothing is taken as HTML or fetched. Run: node --test
+// tests/page/page_scope.mjs
 import assert from 'node:assert/strict';
 import {readFileSync, readdirSync} from 'node:fs';
 import {dirname, join, relative, resolve} from 'node:path';
@@ -8,7 +9,7 @@ import {fileURLToPath} from 'node:url';
 import '../../page/test/limits.mjs';
 
 const page = fileURLToPath(new URL('../../page/', import.meta.url));
-const ROOMS = [
+const FOLDERS = [
   'texts',
   'base',
   'document',
@@ -32,9 +33,10 @@ const importsOf = (file
          .map((found) => found[1] ?? found[2]);
 const fileOf = (from, to) => relative(page, resolve(page, dirname(from), to));
 
-test('there are modules in rooms', () => {
+test('there are modules in folders', () => {
   assert.ok(modules.length > 40);
-  for (const file of modules) assert.ok(file === 'main.js' || ROOMS.includes(dirname(file)), file);
+  for (const file of modules)
+    assert.ok(file === 'main.js' || FOLDERS.includes(dirname(file)), file);
 });
 
 test('each module says what it is, and is short', () => {
@@ -47,20 +49,20 @@ test('each module says what it is, and is short', () => {
   }
 });
 
-test('a room asks only rooms below it, and only modules that are there', () => {
+test('a folder asks only folders below it, and only modules that are there', () => {
   for (const file of modules.filter((one) => one !== 'main.js')) {
     for (const other of importsOf(file).map((one) => fileOf(file, one))) {
       if (other === '../web/nonobench.mjs') continue;  // what sites have of it too
       assert.ok(modules.includes(other), `${file} imports ${other}`);
       assert.ok(
-          ROOMS.indexOf(dirname(other)) <= ROOMS.indexOf(dirname(file)),
+          FOLDERS.indexOf(dirname(other)) <= FOLDERS.indexOf(dirname(file)),
           `${file} asks ${other}, which is above it`
       );
     }
   }
 });
 
-test('no room that writes files or sheets works out clues: those are the engine\'s', () => {
+test('no folder that writes files or sheets works out clues: those are the engine\'s', () => {
   const working = ['repair/lines.js', 'repair/narrowing.js', 'play/crossing.js'];
   for (const file of modules.filter(
            (one) => ['formats', 'draw', 'library', 'import', 'export'].includes(dirname(one))

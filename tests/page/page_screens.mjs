@@ -3,8 +3,9 @@
 // grid and clues, Publish, and what comes when a puzzle is solved. Each is a test of the runner
 // tests/page/page_test.mjs.
 import assert from 'node:assert/strict';
-import {downloaded, fresh} from './page_hands.mjs';
-import {SIZES, SLACK, ppmOf} from './page_trial.mjs';
+import {readFileSync} from 'node:fs';
+import {downloaded, examples, fresh} from './page_common.mjs';
+import {SIZES, ppmOf} from './page_trial.mjs';
 
 const THREE = ['ab.', '.ac', 'cc.'];
 
@@ -39,23 +40,56 @@ export async function fewMeasures({browser, url, folder}) {
           `${where}: ${JSON.stringify(found)}`
       );
     };
-    await page.until(() => document.querySelector('#examples .kept'), 8000 * SLACK);
+    await page.until(() => document.querySelector('#examples .kept'));
     await check('start');
     await trial.example('balloon');
     await trial.judged();
     await page.run(() => {
       runAction('fix');
     });
-    await page.until(() => document.querySelector('#fix-list button'), 20000 * SLACK);
+    await page.until(() => document.querySelector('#fix-list button'));
     await check('editor');
-    for (const id of ['publish', 'print', 'share', 'about', 'play']) {
+    for (const id of ['publish', 'print', 'share', 'about', 'resize', 'palette-save', 'play']) {
       await page.run((one) => {
         runAction(one);
       }, id);
-      await page.until(() => document.querySelector('dialog[open]'), 5000 * SLACK);
+      await page.until(() => document.querySelector('dialog[open]'));
       await check(id);
       await page.run(() => document.querySelector('dialog[open]').close());
     }
+    await page.run((bytes) => {
+      takeFile(new File([Uint8Array.from(bytes)], 'duck.png'));
+    }, [...readFileSync(new URL('duck.png', examples))]);
+    await page.until(() => document.querySelector('#import-palette button'));
+    await check('import');
+    await page.close();
+  }
+}
+
+// Whether nothing lies over the verdict.
+const isInSight = (page) => page.run(() => {
+  const {left, top, width, height} = document.getElementById('verdict').getBoundingClientRect();
+  return document.getElementById('audit'
+  ).contains(document.elementFromPoint(left + width / 2, top + height / 2));
+});
+
+/** Phones, upright and lying, show the verdict beside proposals, and while a colour is changed. */
+export async function verdictOnPhones({browser, url, folder}) {
+  for (const [width, height] of [[390, 844], [844, 390]]) {
+    const size = {...SIZES.phone, width, height};
+    const {page, trial} = await fresh(browser, url, folder, `verdict-${width}`, {size});
+    await trial.example('balloon');
+    await trial.judged();
+    await page.run(() => document.querySelector('#palette [aria-checked="true"]').click());
+    await page.until(() => document.querySelector('#swatch:popover-open'));
+    assert.ok(await isInSight(page), `${width}: a colour`);
+    await page.run(() => {
+      document.getElementById('swatch').hidePopover();
+      runAction('fix');
+    });
+    await page.until(() => document.querySelector('#fix-list button'));
+    await page.run(() => document.getElementById('fix-more').scrollIntoView());
+    assert.ok(await isInSight(page), `${width}: proposals`);
     await page.close();
   }
 }
@@ -76,20 +110,12 @@ export async function verdictInSight({trial, page}) {
   assert.ok(before >= 18, `${before} px`);
   for (const id of ['details', 'lines']) {
     await page.run((one) => document.getElementById(one).scrollIntoView(), id);
-    assert.ok(
-        await page.run(() => {
-          const {left, top, width, height} =
-              document.getElementById('verdict').getBoundingClientRect();
-          return document.getElementById('audit'
-          ).contains(document.elementFromPoint(left + width / 2, top + height / 2));
-        }),
-        id
-    );
+    assert.ok(await isInSight(page), id);
   }
   await page.run(() => {
     runAction('fix');
   });
-  await page.until(() => !document.getElementById('fix').hidden, 3000 * SLACK);
+  await page.until(() => !document.getElementById('fix').hidden);
   assert.equal(await side(), before, 'beside proposals');
 }
 
@@ -103,12 +129,12 @@ export async function swatchesInOrder({trial, page}) {
     await page.middle('#palette [data-letter="c"]')
   ];
   await page.drag([from, [from[0] + 12, from[1]], to]);
-  await page.until((first) => bench.state.colours[1].join() === first, 3000 * SLACK, b);
+  await page.until((first) => bench.state.colours[1].join() === first, b);
   assert.deepEqual(await colours(), [ground, b, c, a]);
   assert.deepEqual(await trial.picture(), ['ca.', '.cb', 'bb.'], 'the picture looks the same');
   await page.run(() => document.querySelector('#palette [aria-checked="true"]').focus());
   await page.press('Shift+ArrowLeft');
-  await page.until((last) => bench.state.colours[3].join() === last, 3000 * SLACK, c);
+  await page.until((last) => bench.state.colours[3].join() === last, c);
   assert.equal(await page.run(() => tools.colour), 'b', 'it stays chosen');
   await trial.press('Control+z', 'Control+z');
   assert.deepEqual(await colours(), [ground, a, b, c]);
@@ -120,13 +146,11 @@ export async function pictureAlone({trial, page}) {
   const cell = () => page.run(() => sheet.geometry.cell);
   const before = await cell();
   await page.click('#zoom [data-action="bare"]');
-  await page.until(
-      (side) => sheet.geometry.isBare && sheet.geometry.cell >= side, 3000 * SLACK, before
-  );
+  await page.until((side) => sheet.geometry.isBare && sheet.geometry.cell >= side, before);
   await trial.drag([[3, 3]]);
   assert.equal((await trial.picture())[2], 'cca');
   await page.press('P');
-  await page.until((side) => sheet.geometry.cell === side, 3000 * SLACK, before);
+  await page.until((side) => sheet.geometry.cell === side, before);
 }
 
 /** Publish asks for title and author once, and proposes the author for the next puzzle. */
@@ -135,15 +159,15 @@ export async function publishing({browser, url, folder}) {
   await trial.example('heart');
   await trial.judged();
   await page.click('#verdict-do [data-action="publish"]');
-  await page.until(() => document.querySelector('dialog[open] .preview svg'), 5000 * SLACK);
+  await page.until(() => document.querySelector('dialog[open] .preview svg'));
   await page.press(...'Heart', 'Tab', ...'Jan');
-  await page.click('[data-way="export-xml"]');
+  await page.click('[data-export="export-xml"]');
   const {content} = await downloaded(page, own, '.xml');
   assert.match(content.toString(), /<title>Heart<\/title>\s*<author>Jan<\/author>/);
   await trial.example('boat');
   await trial.judged();
   await page.click('#verdict-do [data-action="publish"]');
-  await page.until(() => document.querySelector('#publish-author'), 5000 * SLACK);
+  await page.until(() => document.querySelector('#publish-author'));
   assert.equal(await page.run(() => document.getElementById('publish-author').value), 'Jan');
   await page.press('Escape');
   assert.deepEqual(await page.run(() => bench.state.about), {}, 'Escape leaves the texts');
@@ -161,18 +185,18 @@ export async function solvedGrows({browser, url, folder}) {
   await page.run(() => {
     runAction('play');
   });
-  await page.until(() => document.getElementById('play-room')?.open, 5000 * SLACK);
+  await page.until(() => document.getElementById('play-room')?.open);
   await page.press('Enter');
-  await page.until(() => document.getElementById('play-solved').checkVisibility(), 3000 * SLACK);
+  await page.until(() => document.getElementById('play-solved').checkVisibility());
   assert.equal(await trial.text('#solved-title'), 'Dot');
   assert.equal(
       await page.run(() => getComputedStyle(document.getElementById('play-solved')).animationName),
       'none'
   );
   await page.click('#solved-walk');
-  await page.until(() => !document.getElementById('walk-bar').hidden, 5000 * SLACK);
+  await page.until(() => !document.getElementById('walk-bar').hidden);
   assert.ok(await page.run(() => document.getElementById('play-solved').hidden));
   await page.click('#walk-end');
-  await page.until(() => document.getElementById('play-solved').checkVisibility(), 3000 * SLACK);
+  await page.until(() => document.getElementById('play-solved').checkVisibility());
   await page.close();
 }

@@ -31,10 +31,10 @@ function engineOf(texts, log) {
       const text = texts.shift();
       return text === undefined ? new Promise(() => {}) : Promise.resolve(text);
     },
-    call(name, fields, told) {
+    call(name, fields, report) {
       log.push(`${name} ${JSON.stringify(fields)}`);
       const value = texts.shift();
-      for (const one of value?.tells ?? []) told(one);
+      for (const one of value?.tells ?? []) report(one);
       return value === undefined ? new Promise(() => {}) : Promise.resolve(value.ok);
     },
     end: () => log.push('end'),
@@ -42,13 +42,13 @@ function engineOf(texts, log) {
 }
 function searchesOf(texts, seconds = 60) {
   const log = [];
-  const seen = {told: [], judged: [], ended: [], failed: []};
+  const seen = {progress: [], judged: [], ended: [], failed: []};
   const searches = new Searches({
     start: () => {
       log.push('start');
       return engineOf(texts, log);
     },
-    told: (what) => seen.told.push(what),
+    progress: (what) => seen.progress.push(what),
     judged: (verdict) => seen.judged.push(verdict),
     ended: (name, why) => seen.ended.push(why),
     failed: (name, fault) => seen.failed.push(fault.message),
@@ -69,7 +69,7 @@ test('a verdict has no allowance: the time alone ends it', async () => {
   await searches.judge();
   assert.deepEqual(log, ['start', 'open', 'allow off; verdict']);
   assert.deepEqual(seen.judged, [{kind: 'verdict', word: 'ambiguous', other: ['ba', 'ac']}]);
-  assert.equal(seen.told.at(-1), null);
+  assert.equal(seen.progress.at(-1), null);
   assert.deepEqual(seen.ended, []);
 });
 
@@ -86,19 +86,19 @@ test(
 );
 
 test('Stop, a stroke and the end of the time end the worker at once', async () => {
-  const ways = [
+  const ends = [
     [(searches) => searches.stop(), 'stopped'],
     [(searches) => searches.strokeBegun(), 'stroke'],
     [() => {}, 'time']
   ];
-  for (const [how, why] of ways) {
+  for (const [how, why] of ends) {
     const {searches, log, seen} = searchesOf([], why === 'time' ? 0.05 : 60);
     const found = searches.prove();
     await pause(20);
     how(searches);
     assert.equal(await found, null);
     assert.deepEqual(
-        [log.at(-1), seen.ended, seen.told.at(-1), searches.running], ['end', [why], null, null]
+        [log.at(-1), seen.ended, seen.progress.at(-1), searches.running], ['end', [why], null, null]
     );
   }
 });
@@ -170,13 +170,13 @@ test('a job without a name is not told, neither its end nor its failure', async 
   const {searches, seen} = searchesOf(['refused: Memory\n']);
   const name = '';
   assert.equal(await searches.job(name, 60, (copy) => copy.say('path')), null);
-  assert.deepEqual([seen.told, seen.ended, seen.failed], [[], [], []]);
+  assert.deepEqual([seen.progress, seen.ended, seen.failed], [[], [], []]);
   const stopped = searchesOf([]);
   const job = stopped.searches.job(name, 60, (copy) => copy.say('path'));
   await pause(20);
   stopped.searches.strokeBegun();
   assert.equal(await job, null);
-  assert.deepEqual([stopped.seen.told, stopped.seen.ended], [[], []]);
+  assert.deepEqual([stopped.seen.progress, stopped.seen.ended], [[], []]);
 });
 
 // What the engine says of the picture of these tests, whose letters are a, b and c by first

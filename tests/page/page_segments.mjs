@@ -4,7 +4,7 @@ import assert from 'node:assert/strict';
 import {test} from 'node:test';
 import '../../page/test/limits.mjs';
 
-const {bestOf, docInTwo, rankedChoices} = await import('../../page/import/segments.js');
+const {bestOf, docInTwo, rankedChoices, sidesNear} = await import('../../page/import/segments.js');
 
 const GREYS = [[255, 255, 255], [0, 0, 0], [128, 128, 128]];
 const docOf = (picture, colours = GREYS, more = {}) => ({
@@ -46,12 +46,20 @@ test('what is transparent is paper, however dark its background is; specks go', 
   assert.deepEqual(docInTwo(one, [false, true], {specks: 1}).picture, ['...', '...', '...']);
 });
 
+test('a colour of a sketch is on the side of the nearest colour that has one', () => {
+  const sides = new Map([['255,255,255', true], ['0,0,0', false], ['128,128,128', true]]);
+  const sketch = docOf(['.ab'], [[9, 9, 9], [120, 130, 125], [250, 255, 251]]);
+  assert.deepEqual(sidesNear(sketch, sides), [false, true, true]);
+  const doc = docOf(['.ab', '.ab']);
+  assert.deepEqual(sidesNear(doc, new Map()), [false, true, false], 'else the first choice');
+});
+
 test('those with one solution come first, six at most, in their order', async () => {
   const words = ['ambiguous', 'unique', 'undecided', 'unique', 'unique', 'ambiguous', 'unique'];
-  const told = [];
+  const heard = [];
   const judge = async (at) => ({verdict: words[at]});
-  const best = await bestOf([...words.keys()], judge, ({doc}) => told.push(doc));
+  const best = await bestOf([...words.keys()], judge, ({doc}) => heard.push(doc));
   assert.deepEqual(best.map(({doc}) => doc), [1, 3, 4, 6, 0, 2]);
-  assert.deepEqual(told, [1, 3, 4, 6, 0, 2]);
+  assert.deepEqual(heard, [1, 3, 4, 6, 0, 2]);
   assert.deepEqual(await bestOf([0, 1], async () => null), []);
 });

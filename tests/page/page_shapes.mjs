@@ -3,7 +3,20 @@
 import assert from 'node:assert/strict';
 import {test} from 'node:test';
 import '../../page/test/limits.mjs';
-import {boxInMargin, bucketCells, boxCells, boxOf, cutOut, lineCells, reordered, resized, rowsOfText, shifted, stamped, turned} from '../../page/document/shapes.js';
+import {
+  boxInMargin,
+  bucketCells,
+  boxCells,
+  boxOf,
+  cutOut,
+  lineCells,
+  reordered,
+  resized,
+  rowsOfText,
+  shifted,
+  stamped,
+  turned
+} from '../../page/document/shapes.js';
 import {Geometry} from '../../page/draw/geometry.js';
 import {lengthsIn} from '../../page/draw/board.js';
 

@@ -4,11 +4,24 @@
 import assert from 'node:assert/strict';
 import {mkdirSync, readFileSync, rmSync, writeFileSync} from 'node:fs';
 import {join} from 'node:path';
-import {DUCK, clean, downloaded, examples, frames, fresh, hard, isKept, isOpen, menu, said, serve} from './page_hands.mjs';
-import {SIZES, SLACK, Trial, eightColours, ppmOf} from './page_trial.mjs';
+import {
+  DUCK,
+  clean,
+  downloaded,
+  examples,
+  frames,
+  fresh,
+  hard,
+  isKept,
+  isOpen,
+  menu,
+  said,
+  serve
+} from './page_common.mjs';
+import {SIZES, Trial, eightColours, ppmOf} from './page_trial.mjs';
 
-const TWO_WAYS = ['.a', 'a.'];  // its mirror has the same clues
-const ONE_WAY = [
+const AMBIGUOUS = ['.a', 'a.'];  // its mirror has the same clues
+const UNIQUE = [
   'a.',
   '.b',
   'bb'
@@ -18,16 +31,16 @@ const choose = (page, selector, value) => page.run((one, wanted) => {
   document.querySelector(one).value = wanted;
   document.querySelector(one).dispatchEvent(new Event('change', {bubbles: true}));
 }, selector, value);
-const inPlay = (page) => page.until(() => document.getElementById('play-room')?.open, 5000 * SLACK);
+const inPlay = (page) => page.until(() => document.getElementById('play-room')?.open);
 
 // The fragment that the dialog offers, of a kind.
 async function fragment(page, kind) {
   await menu(page, 'share');
-  await page.until(() => document.getElementById('share-link'), 3000 * SLACK);
+  await page.until(() => document.getElementById('share-link'));
   await choose(page, '#share-kind', kind);
   const text = await linkShown(page);
   await page.press('Escape');
-  await page.until(() => !document.querySelector('dialog[open]'), 3000 * SLACK);
+  await page.until(() => !document.querySelector('dialog[open]'));
   return text;
 }
 
@@ -38,14 +51,14 @@ const opened = async (page, url) => {
 };
 
 // The link of a kind, as the dialog offers and copies it.
-async function linkOf(hands, kind) {
-  const {page} = hands;
-  await hands.menu('file', 'share');
-  await page.until(() => document.getElementById('share-link'), 3000 * SLACK);
-  await hands.choose('#share-kind', kind);
+async function linkOf(user, kind) {
+  const {page} = user;
+  await user.menu('file', 'share');
+  await page.until(() => document.getElementById('share-link'));
+  await user.choose('#share-kind', kind);
   const text = await linkShown(page);
-  await hands.press('dialog button.main');
-  await page.until(() => !document.querySelector('dialog[open]'), 3000 * SLACK);
+  await user.press('dialog button.main');
+  await page.until(() => !document.querySelector('dialog[open]'));
   assert.match(await said(page), /copied/);
   return text;
 }
@@ -54,13 +67,13 @@ async function linkOf(hands, kind) {
  * A link to edit opens the whole document and is kept from its first stroke on; one of 30 by 30 in
  * 8 colours is short.
  */
-export async function linkPoint(hands, {page, trial}) {
+export async function linkPoint(user, {page, trial}) {
   await trial.open(eightColours(), 'eight');
   const rows = await trial.picture();
   await page.run(
       () => bench.become((doc) => ({...doc, about: {title: 'Ente & Möwe'}, givens: new Set([3])}))
   );
-  const link = await linkOf(hands, 'edit');
+  const link = await linkOf(user, 'edit');
   assert.match(link, /^file:.*#edit=[A-Za-z0-9_-]+$/);
   assert.ok(link.length < 2000, `${link.length} characters`);
   await opened(page, link);
@@ -69,25 +82,25 @@ export async function linkPoint(hands, {page, trial}) {
       [picture, givens, await page.run(() => bench.state.about.title)], [rows, [3], 'Ente & Möwe']
   );
   await clean(page);
-  await hands.colour(rows[1][1] === 'a' ? 'b' : 'a');
-  await hands.stroke([2, 2]);
+  await user.colour(rows[1][1] === 'a' ? 'b' : 'a');
+  await user.stroke([2, 2]);
   assert.notEqual((await trial.picture())[1][1], rows[1][1]);
-  await page.until(async () => (await keep.keeper.cards()).length === 1, 5000 * SLACK);
+  await page.until(async () => (await keep.keeper.cards()).length === 1);
 }
 
 /**
  * A link to play shows the player alone: there is no way to the editor, and Escape does not close
  * it.
  */
-export async function playerPoint(hands, {page, trial}) {
-  await trial.open(ppmOf(ONE_WAY), 'little');
+export async function playerPoint(user, {page, trial}) {
+  await trial.open(ppmOf(UNIQUE), 'little');
   await page.run(() => bench.become((doc) => ({...doc, about: {title: 'Goose', author: 'Jan'}})));
-  await opened(page, await linkOf(hands, 'play'));
+  await opened(page, await linkOf(user, 'play'));
   await inPlay(page);
-  const told = () =>
+  const titles = () =>
       page.run(() => [document.title, document.getElementById('play-credit').textContent]);
   assert.deepEqual(
-      await told(), ['Puzzle – nonobench', 'by Jan'], 'nothing gives the picture away'
+      await titles(), ['Puzzle – nonobench', 'by Jan'], 'nothing gives the picture away'
   );
   await page.press('Escape', 'Escape');
   assert.ok(await page.run(() => document.getElementById('play-room')?.open));
@@ -100,11 +113,11 @@ export async function playerPoint(hands, {page, trial}) {
       ),
       false
   );
-  await hands.mark('a', [[1, 1]]);
-  await hands.mark('b', [[2, 2], [3, 1], [3, 2]]);
+  await user.mark('a', [[1, 1]]);
+  await user.mark('b', [[2, 2], [3, 1], [3, 2]]);
   assert.match(await trial.text('#play-said'), /^Solved/);
-  assert.deepEqual(await told(), ['Goose – nonobench', 'Goose, by Jan']);
-  assert.deepEqual(await page.run(() => [bench.state.picture, bench.past.length]), [ONE_WAY, 0]);
+  assert.deepEqual(await titles(), ['Goose – nonobench', 'Goose, by Jan']);
+  assert.deepEqual(await page.run(() => [bench.state.picture, bench.past.length]), [UNIQUE, 0]);
 }
 
 /** The player, and the link that others play, offer only the colours that the puzzle has. */
@@ -141,32 +154,30 @@ export async function linkInTheSameTab({browser, url, folder}) {
   const {page, trial} = await fresh(browser, url, folder, 'same-tab');
   await trial.open(ppmOf(DUCK), 'duck');
   const link = await fragment(page, 'edit');
-  await trial.open(ppmOf(TWO_WAYS), 'other');
+  await trial.open(ppmOf(AMBIGUOUS), 'other');
   const play = await fragment(page, 'play');
   const follow = (to, end) => page.run((hash) => {
     location.hash = hash;
   }, to.slice(to.indexOf('#'), end));
   await follow(link);
-  await page.until((rows) => bench.state.picture.join() === rows, 5000 * SLACK, DUCK.join());
+  await page.until((rows) => bench.state.picture.join() === rows, DUCK.join());
   await follow(link, -6);
-  await page.until(() => /damaged/.test(document.getElementById('said').textContent), 3000 * SLACK);
+  await page.until(() => /damaged/.test(document.getElementById('said').textContent));
   assert.deepEqual(await trial.picture(), DUCK);
   const playsAlone = (rows) => page.until(
       (wanted) => document.querySelectorAll('#play-room[open]').length === 1 &&
           play.state.picture.join() === wanted,
-      5000 * SLACK,
       rows.join()
   );
   await page.run(() => runAction('walk'));
   await playsAlone(DUCK);
   await follow(play);
-  await playsAlone(TWO_WAYS);
-  await trial.open(ppmOf(ONE_WAY), 'behind');
-  await playsAlone(ONE_WAY);
+  await playsAlone(AMBIGUOUS);
+  await trial.open(ppmOf(UNIQUE), 'behind');
+  await playsAlone(UNIQUE);
   await page.run(() => document.getElementById('play-hint').click());
   await page.until(
-      () => /^Row 3: more cells follow/.test(document.getElementById('play-said').textContent),
-      5000 * SLACK
+      () => /^Row 3: more cells follow/.test(document.getElementById('play-said').textContent)
   );
   await page.close();
 }
@@ -179,7 +190,7 @@ export async function linkOverDialog({browser, url, folder}) {
   const {page, trial} = await fresh(browser, url, folder, 'over-dialog');
   await trial.open(ppmOf(DUCK), 'duck');
   const link = (await fragment(page, 'edit')).replace(/^[^#]*/, '');
-  await trial.open(ppmOf(TWO_WAYS), 'two');
+  await trial.open(ppmOf(AMBIGUOUS), 'two');
   const address = await page.run(() => location.href);
   await page.run((text) => {
     const dataTransfer = new DataTransfer();
@@ -187,17 +198,15 @@ export async function linkOverDialog({browser, url, folder}) {
     document.body.dispatchEvent(
         new DragEvent('drop', {dataTransfer, bubbles: true, cancelable: true})
     );
-  }, ppmOf(ONE_WAY));
-  await page.until(() => document.querySelector('dialog[open] #several'), 8000 * SLACK);
+  }, ppmOf(UNIQUE));
+  await page.until(() => document.querySelector('dialog[open] #several'));
   for (const button of ['Cancel', 'Open']) {
     await page.run((hash) => {
       location.hash = hash;
     }, link);
-    await page.until(
-        () => /The open dialog closes/.test([...document.querySelectorAll('dialog[open]')].at(-1
-        )?.textContent),
-        5000 * SLACK
-    );
+    await page.until(() => /The open dialog closes/.test([
+      ...document.querySelectorAll('dialog[open]')
+    ].at(-1)?.textContent));
     await page.run(
         (name) => [...document.querySelectorAll('dialog[open] button')]
                       .findLast((one) => one.textContent === name)
@@ -206,13 +215,11 @@ export async function linkOverDialog({browser, url, folder}) {
     );
     await page.until(
         (count) => document.querySelectorAll('dialog[open]').length === count,
-        5000 * SLACK,
         button === 'Cancel' ? 1 : 0
     );
-    if (button === 'Cancel')
-      await page.until((before) => location.href === before, 3000 * SLACK, address);
+    if (button === 'Cancel') await page.until((before) => location.href === before, address);
   }
-  await page.until((rows) => bench.state.picture.join() === rows, 5000 * SLACK, DUCK.join());
+  await page.until((rows) => bench.state.picture.join() === rows, DUCK.join());
   assert.ok(await page.run((hash) => location.hash === hash, link));
   await page.close();
 }
@@ -227,7 +234,7 @@ export async function playersInTheSameTab({browser, url, folder}) {
       () => document.getElementById('play-field').checkVisibility({visibilityProperty: true}) &&
           !document.getElementById('menus').checkVisibility({visibilityProperty: true})
   );
-  for (const rows of [DUCK, TWO_WAYS]) {
+  for (const rows of [DUCK, AMBIGUOUS]) {
     await page.run(async (picture) => {
       const colours = [[255, 255, 255], [0, 0, 0], [200, 40, 40], [40, 80, 200]];
       location.hash = await fragmentOf(
@@ -248,7 +255,6 @@ export async function playersInTheSameTab({browser, url, folder}) {
     }, rows);
     await page.until(
         (count) => document.getElementById('play-room')?.open && play.state.rows === count,
-        5000 * SLACK,
         rows.length
     );
     assert.equal(await page.run(() => document.querySelectorAll('#play-room').length), 1);
@@ -257,9 +263,7 @@ export async function playersInTheSameTab({browser, url, folder}) {
   await page.run(() => {
     location.hash = location.hash.slice(0, -6);
   });
-  await page.until(
-      () => /damaged/.test(document.getElementById('play-said').textContent), 5000 * SLACK
-  );
+  await page.until(() => /damaged/.test(document.getElementById('play-said').textContent));
   assert.deepEqual(
       [
         await isAlone(),
@@ -277,11 +281,11 @@ export async function playersInTheSameTab({browser, url, folder}) {
  */
 export async function linkNotes({browser, url, folder}) {
   const {page, trial} = await fresh(browser, url, folder, 'notes');
-  await trial.open(ppmOf(TWO_WAYS), 'two');
+  await trial.open(ppmOf(AMBIGUOUS), 'two');
   await trial.judged();
   await page.run(() => bench.become((doc) => ({...doc, about: {title: '"><b>x'}})));
   await menu(page, 'share');
-  await page.until(() => document.getElementById('share-link'), 3000 * SLACK);
+  await page.until(() => document.getElementById('share-link'));
   assert.match(
       await trial.text('#share-note'),
       /opened from a file.*contains the solution.*Another picture has the same clues/
@@ -316,12 +320,12 @@ export async function linkNotes({browser, url, folder}) {
 export async function shareStays({browser, url, folder}) {
   for (const [name, size] of Object.entries(SIZES)) {
     const {page, trial} = await fresh(browser, url, folder, `share-${name}`, {size});
-    await trial.open(ppmOf(TWO_WAYS), 'two');
+    await trial.open(ppmOf(AMBIGUOUS), 'two');
     await trial.judged();
     const address = async () => {
       await menu(page, 'share');
       await page.until(
-          () => document.querySelector('dialog[open] #share-link'), 3000 * SLACK
+          () => document.querySelector('dialog[open] #share-link')
       );  // not that of the dialog before, which goes a moment after it closes
       await page.run(() => document.getElementById('share-address').select());
       return page.run(() => document.getElementById('share-address').value);
@@ -342,9 +346,9 @@ export async function shareStays({browser, url, folder}) {
     await page.press('Backspace');
     assert.equal(await place(), before, `${name}: cleared`);
     await page.run(() => {
-      window.told = [];
+      window.heard = [];
       new MutationObserver(
-          () => window.told.push(document.getElementById('said').textContent)
+          () => window.heard.push(document.getElementById('said').textContent)
       ).observe(document.getElementById('said'), {childList: true});
     });
     await page.click('dialog button.main');
@@ -352,8 +356,7 @@ export async function shareStays({browser, url, folder}) {
     assert.equal(await address(), '', `${name}: no address any more`);
     await page.press('Escape');
     await page.until(
-        () => window.told.join('|') === 'The link was copied. It works only on this computer.|',
-        9000 * SLACK
+        () => window.heard.join('|') === 'The link was copied. It works only on this computer.|'
     );
     await page.close();
   }
@@ -362,7 +365,7 @@ export async function shareStays({browser, url, folder}) {
 /** What is no address is named, and nothing is copied: the dialog stays. */
 export async function shareNoAddress({browser, url, folder}) {
   const {page, trial} = await fresh(browser, url, folder, 'share-none');
-  await trial.open(ppmOf(TWO_WAYS), 'two');
+  await trial.open(ppmOf(AMBIGUOUS), 'two');
   await trial.judged();
   await page.run(() => {
     window.copies = [];
@@ -372,7 +375,7 @@ export async function shareNoAddress({browser, url, folder}) {
     document.execCommand = () => window.copies.push('by the browser') > 0;
   });
   await menu(page, 'share');
-  await page.until(() => document.getElementById('share-link'), 3000 * SLACK);
+  await page.until(() => document.getElementById('share-link'));
   const typed = (text) => page.run((value) => {
     const field = document.getElementById('share-address');
     field.value = value;
@@ -384,7 +387,6 @@ export async function shareNoAddress({browser, url, folder}) {
     await page.click('dialog button.main');
     await page.until(
         (wanted) => document.querySelector('dialog[open] [role="alert"]').textContent === wanted,
-        3000 * SLACK,
         `“${text}” is not the address of a page: nothing can be copied.`
     );
   }
@@ -408,20 +410,19 @@ function filesIn(own, files) {
 }
 
 // Drops files by the mouse, or chooses them.
-async function takeAll(hands, paths) {
-  const {page} = hands;
-  if (hands.input === 'mouse') {
+async function takeAll(user, paths) {
+  const {page} = user;
+  if (user.input === 'mouse') {
     const [x, y] = await page.run(() => [innerWidth / 2, innerHeight / 2]);
     const data = {items: [], files: paths, dragOperationsMask: 1};
     for (const type of ['dragEnter', 'dragOver', 'drop'])
       await page.send('Input.dispatchDragEvent', {type, x, y, data});
   } else
-    await hands.chooseFile(() => hands.menu('file', 'open'), ...paths);
-  await page.until(() => document.querySelector('#several'), 5000 * SLACK);
+    await user.chooseFile(() => user.menu('file', 'open'), ...paths);
+  await page.until(() => document.querySelector('#several'));
 }
 
-const closedDialog = (page) =>
-    page.until(() => !document.querySelector('dialog[open]'), 5000 * SLACK);
+const closedDialog = (page) => page.until(() => !document.querySelector('dialog[open]'));
 
 // A PNG of rows of letters, so many pixels a side each.
 async function pngOf(page, rows, by) {
@@ -469,51 +470,50 @@ const rowsShown = (page) => page.run(
  * Several files become a table with verdicts and grades, each picture with what lies beside it; a
  * row opens its picture, all go to the library, or out as one zip.
  */
-export async function severalPoint(hands, {page, trial, own}) {
+export async function severalPoint(user, {page, trial, own}) {
   const paths = filesIn(own, [
-    ['little.ppm', ppmOf(ONE_WAY)],
-    ['two.ppm', ppmOf(TWO_WAYS)],
+    ['little.ppm', ppmOf(UNIQUE)],
+    ['two.ppm', ppmOf(AMBIGUOUS)],
     ['heart.ppm', readFileSync(new URL('heart.ppm', examples))],
     ['notes.txt', 'nothing to read\n'],
-    ['spot.ppm', ppmOf(TWO_WAYS)],
+    ['spot.ppm', ppmOf(AMBIGUOUS)],
     ['spot.ppm.givens', 'given 1 2\n'],
     ['spot.ppm.cert', 'nonocert 1\n'],
-    ['night.ppm', ppmOf(TWO_WAYS)],
+    ['night.ppm', ppmOf(AMBIGUOUS)],
     ['night.ppm.background', '0,0,0\n'],
-    ['art.png', await pngOf(page, ONE_WAY, 61)],
-    ['odd.ppm', ppmOf(TWO_WAYS)],
+    ['art.png', await pngOf(page, UNIQUE, 61)],
+    ['odd.ppm', ppmOf(AMBIGUOUS)],
     ['odd.ppm.givens', 'given 3 1\n'],
     ['lost.background', 'white\n'],
-    ['=1+1.ppm', ppmOf(TWO_WAYS)],
+    ['=1+1.ppm', ppmOf(AMBIGUOUS)],
     ['art17.png', await pngOf(page, ['ABCDEF', 'GHIJKL', 'MNOPQA'], 25)],
     ['"q".ppm.givens', ''],
     ['set.xml', setOf([1, 1], [2, 2], [1, 1])],
   ]);
-  await takeAll(hands, paths);
+  await takeAll(user, paths);
   await page.until(
-      () => /^10 pictures of 10/.test(document.getElementById('several-count').textContent),
-      20000 * SLACK
+      () => /^10 pictures of 10/.test(document.getElementById('several-count').textContent)
   );
   const rows = await rowsShown(page);
   assert.deepEqual(
       rows.map(([name, size, colours, verdict]) => [name, size, colours, verdict]).slice(0, 3),
       [
-        ['little', '2 by 3', '3', ' unique'],
-        ['two', '2 by 2', '2', ' ambiguous'],
-        ['heart', rows[2][1], rows[2][2], ' unique']
+        ['little', '2 by 3', '3', 'unique'],
+        ['two', '2 by 2', '2', 'ambiguous'],
+        ['heart', rows[2][1], rows[2][2], 'unique']
       ]
   );
   assert.deepEqual(rows.slice(4, 7).map((row) => row.slice(0, 4)), [
-    ['spot', '2 by 2, 1 cell given', '2', ' unique'],
-    ['night', '2 by 2, background: black', '2', ' ambiguous'],
-    ['art', '2 by 3', '3', ' unique']
+    ['spot', '2 by 2, 1 cell given', '2', 'unique'],
+    ['night', '2 by 2, background: black', '2', 'ambiguous'],
+    ['art', '2 by 3', '3', 'unique']
   ]);
   assert.deepEqual(rows.slice(8, 13).map((row) => [row[0], row[3] ?? row[1]]), [
-    ['=1+1', ' ambiguous'],
+    ['=1+1', 'ambiguous'],
     ['art17', rows[9][3]],
-    ['set', ' ambiguous'],
+    ['set', 'ambiguous'],
     ['set 2', 'no picture has these clues'],
-    ['set 3', ' ambiguous']
+    ['set 3', 'ambiguous']
   ]);
   const marked = await page.run(
       () => [...document.querySelectorAll('#several [data-verdict]')].map(
@@ -529,14 +529,14 @@ export async function severalPoint(hands, {page, trial, own}) {
     ],
     [
       'lost.background',
-      'no picture here goes with it: what goes with heart.ppm is called heart.ppm.background'
+      'no picture here goes with it: rename it to its picture’s name plus .background, such as heart.ppm.background'
     ]
   ]);
   assert.match(await trial.text('dialog[open]'), /Certificates are not checked here/);
   assert.match(rows[0][4], /^(easy|medium|hard|very hard|expert)$/);
   assert.equal(rows[1][4], '–');
   assert.deepEqual([rows[3].length, rows[3][0]], [2, 'notes']);
-  await hands.press('dialog[open] .buttons button:nth-of-type(2)');  // all as a zip
+  await user.press('dialog[open] .buttons button:nth-of-type(2)');  // all as a zip
   const {content} = await downloaded(page, own, '.zip');
   const text = content.toString('latin1');
   for (const name of ['report.csv', 'little.xml', 'two.xml', 'heart.xml', 'spot.xml', 'art.xml'])
@@ -547,14 +547,14 @@ export async function severalPoint(hands, {page, trial, own}) {
   assert.ok(text.includes('"spot","2 by 2, 1 cell given","2","unique"'));
   await closedDialog(page);
   await clean(page);
-  await takeAll(hands, paths.slice(0, 2));
-  await hands.press('dialog[open] button.main');  // to the library
-  await page.until(async () => (await keep.keeper.cards()).length === 2, 5000 * SLACK);
+  await takeAll(user, paths.slice(0, 2));
+  await user.press('dialog[open] button.main');  // to the library
+  await page.until(async () => (await keep.keeper.cards()).length === 2);
   await closedDialog(page);
-  await takeAll(hands, paths.slice(0, 2));
-  await hands.press('#several [data-name="two"]');
+  await takeAll(user, paths.slice(0, 2));
+  await user.press('#several [data-name="two"]');
   await isOpen(page);
-  assert.deepEqual(await trial.picture(), TWO_WAYS);
+  assert.deepEqual(await trial.picture(), AMBIGUOUS);
 }
 
 /**
@@ -562,12 +562,11 @@ export async function severalPoint(hands, {page, trial, own}) {
  */
 export async function severalUndecided({browser, url, folder}) {
   const {page} = await fresh(browser, url, folder, 'undecided');
-  const paths = filesIn(folder, [['hard.ppm', hard()], ['two.ppm', ppmOf(TWO_WAYS)]]);
+  const paths = filesIn(folder, [['hard.ppm', hard()], ['two.ppm', ppmOf(AMBIGUOUS)]]);
   const add = async () => {
     await takeAll({page, input: 'mouse'}, paths);
     await page.until(
-        () => /^2 pictures of 2/.test(document.getElementById('several-count').textContent),
-        20000 * SLACK
+        () => /^2 pictures of 2/.test(document.getElementById('several-count').textContent)
     );
     await page.click('dialog[open] button.main');
     await closedDialog(page);
@@ -580,7 +579,7 @@ export async function severalUndecided({browser, url, folder}) {
     };
   });
   await add();
-  await page.until(() => window.asked, 5000 * SLACK);
+  await page.until(() => window.asked);
   await frames(page);
   assert.doesNotMatch(await said(page), /added to the library/);
   await page.run(() => {
@@ -588,8 +587,7 @@ export async function severalUndecided({browser, url, folder}) {
   });
   await add();
   await page.until(
-      () => /^2 pictures added to the library/.test(document.getElementById('said').textContent),
-      5000 * SLACK
+      () => /^2 pictures added to the library/.test(document.getElementById('said').textContent)
   );
   const cards = await page.run(
       async () => (await keep.keeper.cards()).map(({name, verdict}) => `${name} ${verdict}`)
@@ -604,15 +602,13 @@ export async function severalUndecided({browser, url, folder}) {
  */
 export async function folderUnread({browser, url, folder}) {
   const {page, trial} = await fresh(browser, url, folder, 'unread');
-  await trial.open(ppmOf(ONE_WAY), 'little');
-  filesIn(folder, [['two.ppm', ppmOf(TWO_WAYS)]]);
+  await trial.open(ppmOf(UNIQUE), 'little');
+  filesIn(folder, [['two.ppm', ppmOf(AMBIGUOUS)]]);
   const data = {items: [], files: [join(folder, 'in')], dragOperationsMask: 1};
   for (const type of ['dragEnter', 'dragOver', 'drop'])
     await page.send('Input.dispatchDragEvent', {type, x: 400, y: 300, data});
-  await page.until(
-      () => /does not read folders/.test(document.getElementById('said').textContent), 5000 * SLACK
-  );
-  assert.deepEqual(await trial.picture(), ONE_WAY);
+  await page.until(() => /does not read folders/.test(document.getElementById('said').textContent));
+  assert.deepEqual(await trial.picture(), UNIQUE);
   await page.close();
 }
 
@@ -628,8 +624,8 @@ export async function foldersApart({browser, folder}) {
   const set = join(folder, 'set');
   rmSync(set, {recursive: true, force: true});
   for (const [part, files] of Object.entries({
-         one: {'spot.ppm': ppmOf(TWO_WAYS)},
-         two: {'spot.ppm': ppmOf(TWO_WAYS), 'spot.ppm.givens': 'given 1 2\n'},
+         one: {'spot.ppm': ppmOf(AMBIGUOUS)},
+         two: {'spot.ppm': ppmOf(AMBIGUOUS), 'spot.ppm.givens': 'given 1 2\n'},
          three: {'spot.ppm.background': '0,0,0'}
        })) {
     mkdirSync(join(set, part), {recursive: true});
@@ -639,14 +635,13 @@ export async function foldersApart({browser, folder}) {
   for (const type of ['dragEnter', 'dragOver', 'drop'])
     await page.send('Input.dispatchDragEvent', {type, x: 400, y: 300, data});
   await page.until(
-      () => /^2 pictures of 2/.test(document.getElementById('several-count')?.textContent),
-      20000 * SLACK
+      () => /^2 pictures of 2/.test(document.getElementById('several-count')?.textContent)
   );
   assert.deepEqual((await rowsShown(page)).map((row) => row.slice(0, 4)), [
     ['spot', '2 by 2', '2', 'ambiguous'],
     [
       'spot.ppm.background',
-      'no picture here goes with it: what goes with heart.ppm is called heart.ppm.background'
+      'no picture here goes with it: rename it to its picture’s name plus .background, such as heart.ppm.background'
     ],
     ['spot', '2 by 2, 1 cell given', '2', 'unique']
   ]);
@@ -657,16 +652,14 @@ export async function foldersApart({browser, folder}) {
         {type, x: 400, y: 300, data: {...data, files: [join(set, 'one')]}}
     );
   await page.until(
-      () => /^1 picture of 1/.test(document.getElementById('several-count')?.textContent),
-      20000 * SLACK
+      () => /^1 picture of 1/.test(document.getElementById('several-count')?.textContent)
   );
   assert.equal(await page.run(() => document.querySelectorAll('dialog[open]').length), 1);
   await end();
   await page.close();
 }
 
-const isKeptOffline = (page) =>
-    page.until(() => navigator.serviceWorker.controller !== null, 8000 * SLACK);
+const isKeptOffline = (page) => page.until(() => navigator.serviceWorker.controller !== null);
 
 /**
  * A served page asks for nothing but its own files, and a frame on a site tells that its puzzle is
@@ -693,7 +686,7 @@ export async function servedPage({browser, folder}) {
     Object.assign(frame, {src, width: 600, height: 600, id: 'frame'});
     document.body.append(frame);
   }, link);
-  await page.until(() => document.getElementById('frame').contentWindow.play?.state, 8000 * SLACK);
+  await page.until(() => document.getElementById('frame').contentWindow.play?.state);
   await page.run(async () => {
     const {play} = document.getElementById('frame').contentWindow;
     const field = document.getElementById('frame').contentDocument.getElementById('play-field');
@@ -711,28 +704,26 @@ export async function servedPage({browser, folder}) {
       field.dispatchEvent(new PointerEvent('pointerup', at));
     }
   });
-  await page.until(
-      () => document.getElementById('told').textContent === '{"nonobench":"solved"}', 3000 * SLACK
-  );
+  await page.until(() => document.getElementById('told').textContent === '{"nonobench":"solved"}');
   await end();
   await page.close();
 }
 
 /** Once it was visited, a served page opens without its server, with its library. */
-export async function offlinePoint(hands, {page, trial, folder}) {
+export async function offlinePoint(user, {page, trial, folder}) {
   const {url, end} = await serve(folder);
   trial.url = url;
   await trial.load();
   await isKeptOffline(page);
   await end();
   await trial.load();  // the server is gone
-  await hands.press('#new-go');
+  await user.press('#new-go');
   await isOpen(page);
-  await hands.stroke([2, 2], [2, 5]);
+  await user.stroke([2, 2], [2, 5]);
   assert.equal(await trial.judged(), 'unique');
   await isKept(page);
   await trial.load();
-  await hands.press('#kept .kept');
+  await user.press('#kept .kept');
   await isOpen(page);
   assert.equal((await trial.picture())[1].slice(0, 6), '.aaaa.');
 }

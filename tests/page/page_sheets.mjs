@@ -336,15 +336,9 @@ test('letters and signs for colours, in clues, solution and legend', () => {
   );
 });
 
-test('blocks with letters or signs stand apart, with one digit or three', () => {
-  const colours = Array.from({length: 16}, (_, at) => [255 - at, 255, 255]);
-  const doc = docOf(['abcdefghijklmno'], colours);
-  const clues = {
-    rows: [
-      [...'abcdefghijklmno'].flatMap((letter) => [1, 12, 120].map((length) => ({length, letter})))
-    ],
-    columns: Array(15).fill([])
-  };
+test('numbers without boxes stand apart, with one digit or three, a letter or a sign', () => {
+  const letters = 'abcdefghijklmno';
+  const lengths = [1, 12, 120, 10, 8, 11];
   // How wide they are in DejaVu Sans, by the size of the text: a digit, m, another letter at most,
   // and a sign at most.
   const wide = (text) => [...text].reduce(
@@ -355,15 +349,31 @@ test('blocks with letters or signs stand apart, with one digit or three', () => 
                               0.945),
       0
   );
-  for (const show of ['letters', 'signs']) {
-    const [sheet] = sheetsWith([{doc, clues}], {show});
-    const blocks = textsOf(sheet).filter(({text}) => /^\d+[^\d ]$/u.test(text));
-    assert.equal(blocks.length, 45);
-    for (const {text, 'font-size': size} of blocks)
+  const sheetOf = (colours, picture, show) => {
+    const clue = [...picture].flatMap((letter) => lengths.map((length) => ({length, letter})));
+    const columns = [clue, ...Array(picture.length - 1).fill([])];
+    return sheetsWith(
+        [{doc: docOf([picture], colours), clues: {rows: [clue], columns}}], {show}
+    )[0];
+  };
+  const many = Array.from({length: 16}, (_, at) => [255 - at, 255, 255]);
+  for (const sheet
+           of [sheetOf(BLACK, 'a', 'colours'),
+               sheetOf(many, letters, 'letters'),
+               sheetOf(many, letters, 'signs')]) {
+    const blocks = textsOf(sheet).filter(({text}) => /^\d+[^\d ]?$/u.test(text) && text !== '0');
+    const row = blocks.slice(0, blocks.length / 2);
+    assert.ok(row.length >= lengths.length && row.every(({y}) => Math.abs(y - row[0].y) < 1));
+    for (const [at, {text, x, 'font-size': size}] of row.slice(1).entries()) {
+      const next = row[at];  // to its right
+      const gap = next.x - x - (wide(text) * size + wide(next.text) * next['font-size']) / 2;
       assert.ok(
-          wide(text) * size < 0.97 * sheet.cell,
-          `${text} has a size of ${size} in a cell of ${sheet.cell}`
+          gap > 0.25 * Math.max(size, next['font-size']),
+          `${text} and ${next.text}, of ${size}, are ${gap} apart`
       );
+    }
+    for (const {text, 'font-size': size} of blocks)  // columns side by side
+      assert.ok(sheet.cell - wide(text) * size > 0.25 * size, `${text} of ${size}`);
   }
 });
 

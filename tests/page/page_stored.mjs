@@ -3,8 +3,8 @@
 import assert from 'node:assert/strict';
 import {readFileSync} from 'node:fs';
 import {join} from 'node:path';
-import {clean, drop, examples, fresh, goOn, isKept, isOpen, said} from './page_hands.mjs';
-import {SLACK, Trial} from './page_trial.mjs';
+import {clean, drop, examples, fresh, goOn, isKept, isOpen, said} from './page_common.mjs';
+import {Trial} from './page_trial.mjs';
 
 // A blank picture is open, and the library has no other.
 async function freshPicture(page) {
@@ -32,7 +32,7 @@ export async function kept({browser, page, trial, url, folder}) {
   const before = await trial.state();
   await trial.load();
   assert.ok(page.dialogs.includes('beforeunload'));
-  await page.until(() => document.querySelector('#kept .kept'), 5000 * SLACK);
+  await page.until(() => document.querySelector('#kept .kept'));
   assert.match(await trial.text('#kept .kept'), /picture.*20 by 15.*not in a file/);
   await page.shot(join(folder, 'start.png'));
   await goOn(page);
@@ -74,11 +74,11 @@ export async function damaged({page, trial}) {
     );
   });
   await trial.load();
-  await page.until(() => document.querySelector('#kept .kept'), 5000 * SLACK);
+  await page.until(() => document.querySelector('#kept .kept'));
   assert.equal(await page.run(() => document.querySelectorAll('#kept .kept').length), 1);
   await goOn(page);
   await isOpen(page);
-  await page.until(() => bench.state.picture[1] === '.a..................', 5000 * SLACK);
+  await page.until(() => bench.state.picture[1] === '.a..................');
   await isKept(page);
   assert.doesNotMatch(await said(page), /another tab/);
   assert.equal(await page.run(async () => (await keep.keeper.cards()).length), 1);
@@ -100,13 +100,12 @@ export async function tabsApart({browser, page, trial, url, folder}) {
   await goOn(other.page);
   await isOpen(other.page);
   await other.page.until(
-      () => document.getElementById('said').textContent.includes('open in another tab'),
-      5000 * SLACK
+      () => document.getElementById('said').textContent.includes('open in another tab')
   );
   for (let again = 0; again < 3; again++) {
     await other.page.run(() => runAction('new'));
     await goOn(other.page);
-    await other.page.until(() => document.getElementById('start').hidden, 5000 * SLACK);
+    await other.page.until(() => document.getElementById('start').hidden);
     await isKept(other.page);
   }
   assert.equal(
@@ -130,13 +129,11 @@ export async function tabsApart({browser, page, trial, url, folder}) {
  */
 export async function renamedElsewhere({browser, page, trial, url, folder}) {
   const other = await besideKept({browser, page, trial, url, folder});
-  await other.page.until(() => document.querySelector('#kept .kept'), 5000 * SLACK);
+  await other.page.until(() => document.querySelector('#kept .kept'));
   await other.page.click('#library .tile-more button');
   await other.page.run(() => document.querySelector('#library [role=menuitem]').click());
   await other.page.press('Control+a', ...'leaf', 'Enter');
-  await other.page.until(
-      () => document.querySelector('#library b')?.textContent === 'leaf', 5000 * SLACK
-  );
+  await other.page.until(() => document.querySelector('#library b')?.textContent === 'leaf');
   await page.run(() => new Promise((go) => {
                    setTimeout(go, 500);
                  }));
@@ -152,7 +149,7 @@ export async function renamedElsewhere({browser, page, trial, url, folder}) {
 
 /**
  * Where there is no database, the browser's local storage keeps the work, until there is one;
- * where there is neither, that is told.
+ * where there is neither, that is reported.
  */
 export async function otherShelves({browser, url, folder}) {
   const hidden = (name) => `Object.defineProperty(window, '${
@@ -184,18 +181,15 @@ export async function otherShelves({browser, url, folder}) {
   );
   await freshPicture(bare);
   await other.drag([[2, 2]]);
-  await bare.until(
-      () => /keeps nothing/.test(document.getElementById('said').textContent), 5000 * SLACK
-  );
+  await bare.until(() => /keeps nothing/.test(document.getElementById('said').textContent));
   await bare.run(async () => {
     location.hash = await fragmentOf(bench.state, 'play');
   });
   await bare.until(
-      () => document.querySelector('dialog[open]')?.textContent.includes('would be lost'),
-      5000 * SLACK
+      () => document.querySelector('dialog[open]')?.textContent.includes('would be lost')
   );
   await bare.press('Escape');
-  await bare.until(() => !document.querySelector('dialog[open]'), 5000 * SLACK);
+  await bare.until(() => !document.querySelector('dialog[open]'));
   assert.equal(
       await bare.run(
           () => document.getElementById('menus').checkVisibility({visibilityProperty: true})
@@ -218,15 +212,12 @@ export async function toldFull({browser, url, folder}) {
   });
   await freshPicture(page);
   await trial.drag([[2, 2]]);
-  await page.until(
-      () => /storage is full/.test(document.getElementById('said').textContent), 5000 * SLACK
-  );
+  await page.until(() => /storage is full/.test(document.getElementById('said').textContent));
   assert.match(await trial.text('#title'), /not kept/);
   const own = join(folder, 'full');
   await drop(page, own, 'flower.ppm', readFileSync(new URL('flower.ppm', examples)));
   await page.until(
-      () => document.querySelector('dialog[open]')?.textContent.includes('would be lost'),
-      5000 * SLACK
+      () => document.querySelector('dialog[open]')?.textContent.includes('would be lost')
   );
   await page.press('Escape');
   assert.equal((await trial.state()).columns, 20);
@@ -235,15 +226,13 @@ export async function toldFull({browser, url, folder}) {
     for (const name of ['one.ppm', 'two.ppm']) data.items.add(new File([text], name));
     window.dispatchEvent(new DragEvent('drop', {dataTransfer: data, cancelable: true}));
   }, readFileSync(new URL('flower.ppm', examples), 'utf8'));
-  await page.until(() => document.querySelector('#several tbody tr'), 5000 * SLACK);
+  await page.until(() => document.querySelector('#several tbody tr'));
   await page.run(() => document.querySelector('#several tbody tr').click());
   await page.until(
-      () =>
-          /would be lost/.test([...document.querySelectorAll('dialog[open]')].at(-1)?.textContent),
-      5000 * SLACK
+      () => /would be lost/.test([...document.querySelectorAll('dialog[open]')].at(-1)?.textContent)
   );
   await page.press('Escape');
-  await page.until(() => document.querySelectorAll('dialog[open]').length < 2, 5000 * SLACK);
+  await page.until(() => document.querySelectorAll('dialog[open]').length < 2);
   assert.equal(
       await page.run(() => document.getElementById('several')?.checkVisibility() ?? false),
       true,
@@ -253,8 +242,8 @@ export async function toldFull({browser, url, folder}) {
 }
 
 /**
- * A database that is closed under the page is opened again; where it does not open that is told,
- * and what needs no library goes on.
+ * A database that is closed under the page is opened again; where it does not open that is
+ * reported, and what needs no library goes on.
  */
 export async function closedDatabase({page, trial}) {
   await freshPicture(page);
@@ -271,19 +260,15 @@ export async function closedDatabase({page, trial}) {
     };
   });
   await trial.drag([[2, 2]]);
-  await page.until(
-      () => /storage refuses it/.test(document.getElementById('said').textContent), 5000 * SLACK
-  );
+  await page.until(() => /refuses to store it/.test(document.getElementById('said').textContent));
   await page.run(() => runAction('print'));
-  await page.until(() => document.querySelector('dialog[open] #print-notes'), 5000 * SLACK);
+  await page.until(() => document.querySelector('dialog[open] #print-notes'));
   await page.press('Escape');
   await page.run(() => {
     IDBFactory.prototype.open = window.own;
   });
   await trial.drag([[3, 3]]);
-  await page.until(
-      () => keep.isKept && document.getElementById('said').textContent === '', 5000 * SLACK
-  );
+  await page.until(() => keep.isKept && document.getElementById('said').textContent === '');
   assert.equal(await page.run(async () => (await keep.keeper.cards()).length), 1);
 }
 
@@ -294,7 +279,7 @@ export async function closedDatabase({page, trial}) {
 export async function listedAtOnce({page, trial}) {
   await freshPicture(page);
   await keptStroke(trial, [2, 2]);
-  const told = await page.run(async () => {
+  const listed = await page.run(async () => {
     const {keeper, id} = keep;
     const {record, card} = await keeper.entry(id);
     const entries = Array.from(
@@ -319,6 +304,6 @@ export async function listedAtOnce({page, trial}) {
     IDBDatabase.prototype.transaction = transaction;
     return {cards: cards.length, more: count - bare.length, isBare: bare.includes('work:more7')};
   });
-  assert.deepEqual(told, {cards: 500, more: 1, isBare: true});
+  assert.deepEqual(listed, {cards: 500, more: 1, isBare: true});
   await clean(page);
 }

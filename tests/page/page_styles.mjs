@@ -17,8 +17,8 @@ const declarationsOf =
         ([, name, value]) => ({file, name, value: value.replace(/\s+/g, ' ')})
     );
 const others = files.flatMap(declarationsOf);
-const told = ({file, name, value}) => `${file}: ${name}: ${value}`;
-const wrong = (isWrong) => others.filter(isWrong).map(told);
+const textOf = ({file, name, value}) => `${file}: ${name}: ${value}`;
+const wrong = (isWrong) => others.filter(isWrong).map(textOf);
 
 test('no colour stands outside the tokens', () => {
   const colour =

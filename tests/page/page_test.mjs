@@ -2,7 +2,7 @@
 // window. What is shown is compared with sessions of `nonobench work` on the same picture. A table
 // at the end says which of the page's points hold, by size and input. Usage: node
 // tests/page/page_test.mjs FOLDER [TEST ..], where FOLDER gets pictures of the page, and TEST is
-// the name of a trial, the beginning of one ('drawing:' are all that begin so), or that of a room
+// the name of a trial, the beginning of one ('drawing:' are all that begin so), or that of a group
 // of trials (`pens` for page_pens.mjs). PAGE is the built page (web/out/nonobench.html if it is
 // there, else dist/nonobench.html), NONOBENCH the program (none: nothing is compared), SLACK a
 // factor for the bounds of time, CHROMIUM the browser. It needs unzip and poppler's pdfinfo and
@@ -22,6 +22,7 @@ import * as loss from './page_loss.mjs';
 import * as marks from './page_marks.mjs';
 import * as meaning from './page_meaning.mjs';
 import * as mending from './page_mending.mjs';
+import * as opening from './page_opening.mjs';
 import * as out from './page_out.mjs';
 import * as pens from './page_pens.mjs';
 import * as phone from './page_phone.mjs';
@@ -32,7 +33,7 @@ import * as safe from './page_safe.mjs';
 import * as screens from './page_screens.mjs';
 import * as sharing from './page_sharing.mjs';
 import * as stored from './page_stored.mjs';
-import * as ways from './page_ways.mjs';
+import * as two from './page_two.mjs';
 
 const [folder, ...only] = [resolve(process.argv[2]), ...process.argv.slice(3)];
 const pageOf = (folder) =>
@@ -41,7 +42,7 @@ const url =
     hookedPage(process.env.PAGE ?? [pageOf('web/out'), pageOf('dist')].find(existsSync), folder);
 if (!process.env.NONOBENCH)
   console.log('no program: what is shown is not compared with a session (set NONOBENCH)');
-const rooms = {
+const groups = {
   books,
   safe,
   drawing,
@@ -52,7 +53,7 @@ const rooms = {
   meaning,
   mending,
   repairs,
-  ways,
+  opening,
   stored,
   out,
   looks,
@@ -62,14 +63,17 @@ const rooms = {
   sharing,
   coming,
   pictures,
+  two,
   points: points.tests
 };
-const isWanted = (name, room) => !only.length ||
-    only.some((one) => one === name || one === room || (one.endsWith(':') && name.startsWith(one)));
-const tests = Object.entries(rooms).flatMap(
-    ([room, trials]) => Object.entries(trials).filter(
+const isWanted = (name, group) => !only.length ||
+    only.some(
+        (one) => one === name || one === group || (one.endsWith(':') && name.startsWith(one))
+    );
+const tests = Object.entries(groups).flatMap(
+    ([group, trials]) => Object.entries(trials).filter(
         ([name, test]) =>
-            typeof test === 'function' && !name.endsWith('Point') && isWanted(name, room)
+            typeof test === 'function' && !name.endsWith('Point') && isWanted(name, group)
     )
 );
 const browser = new Browser();

@@ -18,6 +18,7 @@ const {mirrored} = await import('../../page/texts/mirrored.js');
 const {LANGUAGE, filled, phrase} = await import('../../page/texts/phrase.js');
 const {verdictTitle} = await import('../../page/base/names.js');
 const {capital, lineName, linesText, opening} = await import('../../page/base/words.js');
+const {placeText} = await import('../../page/view/proposals.js');
 const TABLES = {
   en: EN,
   de: DE,
@@ -40,9 +41,10 @@ test('each text of the table is used, and each that is asked for is there', () =
 // One word in English, two in other languages.
 const HOMONYMS = ['play.playSteps', 'view.keyDelete'];
 
-test('a name begins with its room, and no text stands twice in a room', () => {
-  const rooms = new Set(modules.map((file) => (file.includes('/') ? file.split('/')[0] : 'main')));
-  for (const name of Object.keys(EN)) assert.ok(rooms.has(name.split('.')[0]), name);
+test('a name begins with its folder, and no text stands twice in a folder', () => {
+  const folders =
+      new Set(modules.map((file) => (file.includes('/') ? file.split('/')[0] : 'main')));
+  for (const name of Object.keys(EN)) assert.ok(folders.has(name.split('.')[0]), name);
   const seen = new Map();
   for (const [name, text] of Object.entries(EN).filter(([one]) => !HOMONYMS.includes(one))) {
     const key = `${name.split('.')[0]} ${text}`;
@@ -166,10 +168,12 @@ test(
       assert.equal(languageOf(null, []), 'en');
       assert.equal(languageOf(MIRRORED, []), MIRRORED);
       assert.ok(!(MIRRORED in LANGUAGES));
-      for (const text of Object.values(EN))
-        assert.deepEqual(placesOf(mirrored(text)), placesOf(text));
     }
 );
+
+test('mirrored texts have the places of the English ones', () => {
+  for (const text of Object.values(EN)) assert.deepEqual(placesOf(mirrored(text)), placesOf(text));
+});
 
 test(
     'places are filled: texts as they are, numbers as the language writes them, forms by number',
@@ -191,8 +195,13 @@ test('lines by their names and places, a verdict and what opens a dialog, in wor
       ['columns 2–4, 7', 'row 5', '']
   );
   assert.deepEqual(
-      [lineName(true, 0), capital(lineName(false, 11)), opening('Print')],
-      ['row 1', 'Column 12', 'Print …']
+      [
+        lineName(true, 0),
+        capital(lineName(false, 11)),
+        placeText({columns: 4}, 6),
+        opening('Print')
+      ],
+      ['row 1', 'Column 12', 'row 2, column 3', 'Print …']
   );
   assert.deepEqual(
       ['unique', 'ambiguous', 'undecided'].map(verdictTitle), ['Unique', 'Ambiguous', 'Undecided']

@@ -74,9 +74,7 @@ export class Trial {
 
   async load() {
     await this.page.goto(this.url);
-    await this.page.until(
-        () => 'listed' in (document.getElementById('start')?.dataset ?? {}), 10000 * SLACK
-    );
+    await this.page.until(() => 'listed' in (document.getElementById('start')?.dataset ?? {}));
   }
 
   /**
@@ -107,15 +105,15 @@ export class Trial {
   }
 
   /** Waits until strokes are answered. */
-  settled(ms = 5000) {
-    return this.page.until(() => !bench.running && !bench.queue.length, ms * SLACK);
+  settled() {
+    return this.page.until(() => !bench.running && !bench.queue.length);
   }
 
   /** Waits until a verdict is there or no search runs any more. */
-  async judged(ms = 10000) {
-    await this.settled(ms);
+  async judged() {
+    await this.settled();
     return this.page.until(
-        () => bench.state.verdict.word !== 'undecided' && bench.state.verdict.word, ms * SLACK
+        () => bench.state.verdict.word !== 'undecided' && bench.state.verdict.word
     );
   }
 

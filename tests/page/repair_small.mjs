@@ -215,6 +215,25 @@ test('one cell may end two witnesses that share no line', async () => {
   }
 });
 
+test(
+    'a repaint is seen as much whether its cells were changed together or one by one',
+    async () => {
+      const rows = ['.aa.', 'a..a', 'a..a', '.aa.'];  // left and right are the same
+      const painsOf = async (mirror) => {
+        const pains = new Map();
+        const board = boardOf(small, cellsOf(rows), {rule: false, mirror});
+        await repair({board, goal: 'unique', say: sessionOf(small, cellsOf(rows)), ...BOUNDS}, {
+          found: ({cells, pain}) => pains.set(JSON.stringify(cells), pain)
+        });
+        return pains;
+      };
+      const [together, apart] = [await painsOf('x'), await painsOf(null)];
+      const both = [...together.keys()].filter((cells) => apart.has(cells));
+      assert.ok(both.length > 0, `${[...together.keys()]} and ${[...apart.keys()]}`);
+      for (const cells of both) assert.equal(together.get(cells), apart.get(cells), cells);
+    }
+);
+
 test('for line logic, too', async () => {
   const next = random(8);
   for (let turn = 0; turn < 25; turn++) {
@@ -391,7 +410,7 @@ test('a search ends with its questions, and what was found stays', async () => {
 
 test('what is nearer to the goal than the picture is told, each time nearer', async () => {
   const next = random(51);
-  let told = 0;
+  let nearer = 0;
   for (let turn = 0; turn < 40; turn++) {
     const cells = someCells(small, next, (one) => !small.isUnique(one));
     const farOf = (one) => Math.max(...small.others(one
@@ -405,12 +424,12 @@ test('what is nearer to the goal than the picture is told, each time nearer', as
                 differing, farOf(painted(cells, changes)), 'as many cells differ as is told'
             );
             far = differing;
-            told++;
+            nearer++;
           },
         }
     );
   }
-  assert.ok(told > 10, `${told} told`);
+  assert.ok(nearer > 10, `${nearer} nearer`);
 });
 
 test('a session that refuses a line ends the search with an error', async () => {
@@ -444,10 +463,10 @@ test('places of open cells that settle nothing of one another', () => {
       [[0, 1, 6, 7, 28, 29, 34, 35]],
       'all in one where there is no time'
   );
-  const held = board.holding([28, 29, 34, 35]);
-  assert.deepEqual(placesOf(held), [[0, 1, 6, 7]], 'given, the other place is settled');
+  const fixed = board.holding([28, 29, 34, 35]);
+  assert.deepEqual(placesOf(fixed), [[0, 1, 6, 7]], 'given, the other place is settled');
   assert.ok(
-      held.moves.every(({codes}) => codes.every((code) => ![28, 29, 34, 35].includes(code >> 4))),
+      fixed.moves.every(({codes}) => codes.every((code) => ![28, 29, 34, 35].includes(code >> 4))),
       'and stays as it is'
   );
   assert.deepEqual(
@@ -490,7 +509,7 @@ function sessionOfCorners(cells) {
 test('each place is mended by itself, and the best of all together mend the whole', async () => {
   const cells = cellsOf(APART);
   const [ofPlaces, wholes] = [[], []];
-  let told = null;
+  let named = null;
   await repair(
       {
         board: new Board({rows: 6, columns: 6, cells}),
@@ -502,17 +521,17 @@ test('each place is mended by itself, and the best of all together mend the whol
       {
         found: (one) => wholes.push(one),
         placed: (places, one) => {
-          told = places;
+          named = places;
           if (one) ofPlaces.push(one);
         },
       }
   );
-  assert.deepEqual(told, [[0, 1, 6, 7], [28, 29, 34, 35]]);
+  assert.deepEqual(named, [[0, 1, 6, 7], [28, 29, 34, 35]]);
   const after = (changes, at) => {
     const painted = cells.slice();
     for (const {index: place, colour} of changes) painted[place] = colour;
     const {masks} = settled({rows: 6, columns: 6}, painted);
-    return told[at].filter((place) => masks[place] & (masks[place] - 1));
+    return named[at].filter((place) => masks[place] & (masks[place] - 1));
   };
   for (const at of [0, 1]) {
     const own = ofPlaces.filter(({place}) => place === at);

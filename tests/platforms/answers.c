@@ -16,11 +16,11 @@ static uint32_t chance(uint32_t n) {
 }
 
 /* FNV-1a over all that is told of a case. */
-static uint64_t told;
+static uint64_t digest;
 
 static void tell(const char *text) {
-  for (; *text; text++) told = (told ^ (unsigned char)*text) * 1099511628211u;
-  told = (told ^ 10) * 1099511628211u;
+  for (; *text; text++) digest = (digest ^ (unsigned char)*text) * 1099511628211u;
+  digest = (digest ^ 10) * 1099511628211u;
 }
 
 /* A picture of up to 9 rows and columns in up to four colours. */
@@ -78,14 +78,14 @@ static void run_case(char *picture, char *said) {
   tell(said);
   free(certificate);
   for (int at = 0; at < 6; at++) putchar('0' + (int)status[at]);
-  printf(" %d %016llx\n", (int)ruling, (unsigned long long)told);
+  printf(" %d %016llx\n", (int)ruling, (unsigned long long)digest);
 }
 
 int main(int count, char **words) {
   char *picture = malloc(ROOM), *said = malloc(ROOM);
   if (count != 3 || !picture || !said) return 2;
   for (uint32_t at = 0, first = (uint32_t)atoi(words[1]); at < (uint32_t)atoi(words[2]); at++) {
-    state = (first + at) * 2654435761u + 1, told = 14695981039346656037u, said[0] = 0;
+    state = (first + at) * 2654435761u + 1, digest = 14695981039346656037u, said[0] = 0;
     run_case(picture, said);
   }
   free(picture);

@@ -64,9 +64,9 @@ static uint32_t call(int which, char *said) {
   return status;
 }
 
-/* How many growths of a call were refused, and how many of these it told; 0 where an answer is
+/* How many growths of a call were refused, and how many of these it reported; 0 where an answer is
  * wrong. */
-static unsigned refuse_each(int which, unsigned *told) {
+static unsigned refuse_each(int which, unsigned *reported) {
   char ample[ROOM], said[ROOM];
   uint32_t wanted = call(which, ample);
   for (unsigned at = 1; at < MOST; at++) {
@@ -76,7 +76,7 @@ static unsigned refuse_each(int which, unsigned *told) {
     until = 0;
     if (!was_refused) return is_same ? at - 1 : 0;
     if (!is_same && (status != NONOBENCH_MEMORY || strcmp(said, "memory") != 0)) return 0;
-    *told += status == NONOBENCH_MEMORY;
+    *reported += status == NONOBENCH_MEMORY;
     if (call(which, said) != wanted || strcmp(said, ample) != 0) return 0;
   }
   return 0;
@@ -84,9 +84,9 @@ static unsigned refuse_each(int which, unsigned *told) {
 
 int main(void) {
   for (int which = 0; which < 6; which++) {
-    unsigned told = 0, refused = refuse_each(which, &told);
-    printf("call %d: %u growths refused, %u of them told\n", which, refused, told);
-    if (refused == 0 || told < 3 || empty > 0) return 1;
+    unsigned reported = 0, refused = refuse_each(which, &reported);
+    printf("call %d: %u growths refused, %u of them reported\n", which, refused, reported);
+    if (refused == 0 || reported < 3 || empty > 0) return 1;
   }
   return 0;
 }

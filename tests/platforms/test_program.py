@@ -12,7 +12,7 @@ from tried import EXAMPLES, ROOT, Ended, ended
 
 sys.path.append(str(ROOT / 'tests' / 'program'))
 
-from test_cases import CALLS, answered, rows, told  # noqa: E402
+from test_cases import CALLS, answered, expected, rows  # noqa: E402
 from test_sessions import words_of  # noqa: E402
 
 pytestmark = [pytest.mark.toolchain, pytest.mark.compiler, pytest.mark.emulator]
@@ -45,22 +45,22 @@ def test_cases(system, kind, tmp_path):
         for words, text in calls
     ]
     for run, (_, answer) in zip(system.run_each(within, tmp_path), asked, strict=True):
-        answered(run, told(kind, answer))
+        answered(run, expected(kind, answer))
 
 
 @ON_EACH
-def test_sessions(system, kept, tmp_path):
+def test_sessions(system, build, tmp_path):
     """They print what the program for x86-64 prints, up to the last byte."""
     runs = []
     for folder in (EXAMPLES, ROOT / 'tests' / 'sessions'):
         for file in sorted(folder.glob('*.session')):
             words, background = words_of(file)
-            for place in file.parent.glob(f'{file.stem}.*'):
-                shutil.copy(place, tmp_path)
+            for path in file.parent.glob(f'{file.stem}.*'):
+                shutil.copy(path, tmp_path)
             words = [word.name if hasattr(word, 'name') else word for word in words]
             runs.append((['work', *words, *background], file.read_bytes()))
     wanted = [
-        ended([kept.program('nonobench'), *words], text, cwd=tmp_path) for words, text in runs
+        ended([build.program('nonobench'), *words], text, cwd=tmp_path) for words, text in runs
     ]
     assert {run.status for run in wanted} == {0}
     assert system.run_each(runs, tmp_path) == wanted
@@ -115,9 +115,9 @@ def test_files_and_streams(system, tmp_path):
 
 
 @ON_EACH
-def test_help_and_version(system, kept, tmp_path):
+def test_help_and_version(system, build, tmp_path):
     words = [['--version'], ['--help'], ['check', '--help'], [], ['jump']]
-    wanted = [ended([kept.program('nonobench'), *line]) for line in words]
+    wanted = [ended([build.program('nonobench'), *line]) for line in words]
     assert system.run_each([(line, b'') for line in words], tmp_path) == wanted
 
 

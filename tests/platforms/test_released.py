@@ -17,8 +17,8 @@ FIT = Ended(0, b'unique\nsize 2 2\ncolours 3\ngivens 0\nopen 0\ngrade easy 1 4 3
 
 def are_those(folder, files, tested):
     """The files that are packed are those that were tested."""
-    for place, name in files.items():
-        assert (folder / place).read_bytes() == (tested / name).read_bytes(), place
+    for path, name in files.items():
+        assert (folder / path).read_bytes() == (tested / name).read_bytes(), path
 
 
 @ON_LINUX
@@ -26,12 +26,12 @@ def test_archive(system, made, tmp_path):
     package = named(made, 'nonobench-*-linux-aarch64.tar.gz')
     passes(['tar', 'xzf', package, '-C', tmp_path])
     folder = tmp_path / package.name[: -len('.tar.gz')]
-    places = ['bin/nonobench', 'lib/nonobench/nonobench/libnonobench.so']
-    places += [
+    paths = ['bin/nonobench', 'lib/nonobench/nonobench/libnonobench.so']
+    paths += [
         f'lib/lib{name}' for name in ('nonobench.a', 'nonobench.so', 'nonocheck.a', 'nonocheck.so')
     ]
-    places += ['include/nonobench.h', 'include/nonocheck.h']
-    are_those(folder, {place: place.split('/')[-1] for place in places}, system.made)
+    paths += ['include/nonobench.h', 'include/nonocheck.h']
+    are_those(folder, {path: path.split('/')[-1] for path in paths}, system.made)
     pair = [
         folder / 'share/doc/nonobench/examples' / f'diagonal.{kind}' for kind in ('ppm', 'ppm.cert')
     ]
@@ -101,10 +101,10 @@ def test_archive_for_windows(system, made, tmp_path):
     package = named(made, 'nonobench-*-windows-x86_64.zip')
     passes([sys.executable, '-m', 'zipfile', '-e', package, tmp_path])
     folder = tmp_path / package.stem
-    places = ['nonobench.exe']
+    paths = ['nonobench.exe']
     for name in ('nonobench', 'nonocheck'):
-        places += [f'c/{name}.dll', f'c/lib{name}.a', f'c/lib{name}.dll.a', f'c/{name}.h']
-    are_those(folder, {place: place.split('/')[-1] for place in places}, system.made)
+        paths += [f'c/{name}.dll', f'c/lib{name}.a', f'c/lib{name}.dll.a', f'c/{name}.h']
+    are_those(folder, {path: path.split('/')[-1] for path in paths}, system.made)
     commands = [
         line.strip()
         for line in (folder / 'README.txt').read_text().splitlines()
@@ -118,5 +118,5 @@ def test_archive_for_windows(system, made, tmp_path):
     assert [(run.status, run.said) for run in runs] == [(0, b'')] * 5, runs
     first = [run.wrote.split(b'.')[0].replace(b'\r\n', b'\n').strip() for run in runs]
     fit = FIT.wrote.strip()
-    assert first == [YES.wrote.strip(), b'', b'Multicolour nonograms', fit, fit]
+    assert first == [YES.wrote.strip(), b'', b'Design multicolour nonograms with one solution', fit, fit]
     assert (folder / 'heart.ppm.cert').read_bytes().startswith(b'nono')

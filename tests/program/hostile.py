@@ -29,7 +29,10 @@ MOST_BYTES = 16 * MEBIBYTE  # the longest input that the program takes
 COUNTED = (1 << 16, 1 << 17, 1 << 18)  # sizes at which instructions are counted
 MOST_OVER = 64 * MEBIBYTE
 MOST_LEMMAS = 72 * MEBIBYTE  # a step has eight bytes, and may have two in the text
-MOST_COUNTED = 18_000  # instructions for a byte; a third of it where a line has one step
+MOST_COUNTED = 4_600  # instructions for a byte: half a second for a MiB
+# A step of two bytes reads a lemma of up to 1,024 literals, 11 instructions each; one of four bytes
+# evaluates a line of 120 cells with as many blocks as there can be.
+MOST_OF_RUNS = {'runs: a long lemma, used': 6_000, 'runs: large lines': 9_000}
 PIECE = 1 << 14
 TIME = '/usr/bin/time'
 SIDE = 20
@@ -307,9 +310,9 @@ class Machine:
         """The bytes of the text, the peak of memory in bytes, the seconds, the status, a signal,
         and what was said."""
         bytes_of, words, given = self.prepare(kind, size)
-        said, told = (os.path.join(self.folder, name) for name in ('said', 'told'))
+        said, peak = (os.path.join(self.folder, name) for name in ('said', 'peak'))
         # A process begun by this one has its peak too. One that TIME begins has its own.
-        before = [TIME, '-q', '-f', '%M', '-o', told] if os.path.exists(TIME) else []
+        before = [TIME, '-q', '-f', '%M', '-o', peak] if os.path.exists(TIME) else []
         words = [*before, self.program, *words]
         with open(given, 'rb') as source, open(os.devnull, 'wb') as sink, open(
             said, 'wb'
@@ -332,7 +335,7 @@ class Machine:
         status, signal = ended >> 8, ended & 127
         if not before:
             return bytes_of, usage.ru_maxrss * 1024, took, status, signal, text
-        with open(told, encoding='ascii') as figure:
+        with open(peak, encoding='ascii') as figure:
             return bytes_of, int(figure.read()) * 1024, took, status, max(0, status - 128), text
 
     def instructions(self, kind, size):
@@ -379,7 +382,7 @@ def row_of(machine, name, kind):
         good = (
             good
             and is_linear(first, second, 1, 1.1)
-            and second < MOST_COUNTED / (1 if name.startswith('runs') else 3)
+            and second < MOST_OF_RUNS.get(name, MOST_COUNTED)
         )
     answer = said or f'status {status}' if not signal else f'SIGNAL {signal}'
     line = f'{name:<42} {many:>9} {counted:>8} {seconds:>8.2f} {over / MEBIBYTE:>8.1f}  {answer}'

@@ -53,10 +53,10 @@ class Wrong(Exception):
     """A run that is not as it must be."""
 
 
-def must(is_so, told):
+def must(is_so, what):
     """Stops where something is not as it must be."""
     if not is_so:
-        raise Wrong(told)
+        raise Wrong(what)
 
 
 class Streams:

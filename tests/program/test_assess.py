@@ -8,9 +8,9 @@ from tried import Ended, ended
 RING = 'unique\nsize 3 3\ncolours 2\ngivens 0\nopen 0\ngrade easy 1 3 1 0 0\nfit\n'
 CROSS = 'ambiguous\n.a\na.\nsize 2 2\ncolours 2\ngivens 0\nopen 4\nunfit\n'
 # One corner of the cross is given: row 1, row 2 in vain, column 1, column 2.
-HELD = 'unique\nsize 2 2\ncolours 2\ngivens 1\nopen 0\ngrade easy 1 4 2 0 0\n'
+ONE_GIVEN = 'unique\nsize 2 2\ncolours 2\ngivens 1\nopen 0\ngrade easy 1 4 2 0 0\n'
 # Both are: row 1 and row 2, and no column has an open cell.
-TWICE = 'unique\nsize 2 2\ncolours 2\ngivens 2\nopen 0\ngrade easy 1 2 1 0 0\n'
+TWO_GIVENS = 'unique\nsize 2 2\ncolours 2\ngivens 2\nopen 0\ngrade easy 1 2 1 0 0\n'
 CERT = 'nonocert 2\ngiven 1 1\nline r 1\nline c 1\nline r 2\ndone\n'
 
 
@@ -88,11 +88,11 @@ def test_too_long(nonobench, folder):
 # The files beside the cross, and its block.
 BESIDE = {
     ('--givens', 'none'): CROSS,
-    ('--givens', 'corner'): HELD + 'fit\n',
-    ('--givens', 'both'): TWICE + 'flaw given 1 1\nunfit\n',
+    ('--givens', 'corner'): ONE_GIVEN + 'fit\n',
+    ('--givens', 'both'): TWO_GIVENS + 'flaw given 1 1\nunfit\n',
     ('--givens', 'outside'): 'refused givens Place at line 1\n',
-    ('--givens', 'corner', '--certificate', 'cert'): HELD + 'fit\n',
-    ('--givens', 'both', '--certificate', 'cert'): TWICE + 'flaw given 1 1\nunfit\n',
+    ('--givens', 'corner', '--certificate', 'cert'): ONE_GIVEN + 'fit\n',
+    ('--givens', 'both', '--certificate', 'cert'): TWO_GIVENS + 'flaw given 1 1\nunfit\n',
     (
         '--givens',
         'none',
@@ -104,6 +104,7 @@ BESIDE = {
 }
 
 
+@pytest.mark.since('0.8.0')
 @pytest.mark.parametrize('words', BESIDE)
 def test_beside(nonobench, folder, words):
     wanted = BESIDE[words]
@@ -123,6 +124,7 @@ REFUSED = {
 }
 
 
+@pytest.mark.since('0.8.0')
 @pytest.mark.parametrize('words', REFUSED)
 def test_refused(nonobench, folder, words):
     assert assessed(nonobench, folder, *words) == Ended(

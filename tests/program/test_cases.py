@@ -69,34 +69,34 @@ def lines_of(places):
     return ''.join(f'given {place.replace(",", " ")}\n' for place in places)
 
 
-def puzzle_of(place, text):
-    return ['work', *put(place, file=printed(text)), '--format', 'non'], b'write non\n'
+def puzzle_of(folder, text):
+    return ['work', *put(folder, file=printed(text)), '--format', 'non'], b'write non\n'
 
 
-def check_of(place, text):
+def check_of(folder, text):
     cells, _, cert = text.partition(' ')
-    return ['check', *put(place, picture=picture_of(cells), cert=printed(cert))], b''
+    return ['check', *put(folder, picture=picture_of(cells), cert=printed(cert))], b''
 
 
-def givens_of(place, text):
+def givens_of(folder, text):
     givens, picture, cert = put(
-        place, givens=printed(text), picture=picture_of('a./.a'), cert=DIAGONAL_CERT
+        folder, givens=printed(text), picture=picture_of('a./.a'), cert=DIAGONAL_CERT
     )
     return ['check', '--givens', givens, picture, cert], b''
 
 
-def published_of(place, text):
+def published_of(folder, text):
     """What the libraries must answer, too."""
     cells, published, cert = text.split(' ', 2)
     lines = lines_of(published.split(';')) if published != '-' else ''
-    picture, cert, givens = put(place, picture=picture_of(cells), cert=printed(cert), givens=lines)
+    picture, cert, givens = put(folder, picture=picture_of(cells), cert=printed(cert), givens=lines)
     return ['check', picture, cert, *([] if published == 'any' else ['--givens', givens])], b''
 
 
 # How a program is called for a text of each kind of case, with files in a folder: its words and its
 # input.
 CALLS = {
-    'pictures': lambda place, text: ([], printed(text)),
+    'pictures': lambda folder, text: ([], printed(text)),
     'puzzles': puzzle_of,
     'certificates': check_of,
     'lemmas': check_of,
@@ -105,7 +105,7 @@ CALLS = {
 }
 
 
-def told(kind, answer):
+def expected(kind, answer):
     """What the program must answer: of what is published, a library tells the givens, too, and they
     come first."""
     return answer.split(' ', 1)[1] if kind == 'published' else answer
@@ -114,7 +114,7 @@ def told(kind, answer):
 def hint_of(program, text):
     """What the program in JavaScript says of a certificate whose first line ends with CR LF."""
     is_hinted = program.in_node and printed(text).split(b'\n', 1)[0].endswith(b'\r')
-    return 'nonobench: its lines end with CR LF, and must end with LF alone\n' if is_hinted else ''
+    return 'nonobench: its lines end with CR LF, and must end with LF only\n' if is_hinted else ''
 
 
 ASKED = [
@@ -128,7 +128,7 @@ ASKED = [
 def test_case(program, kind, text, answer, tmp_path):
     words, given = CALLS[kind](tmp_path, text)
     hint = hint_of(program, text) if CALLS[kind] is check_of else ''
-    answered(ended([program.path, *words], given), told(kind, answer), hint)
+    answered(ended([program.path, *words], given), expected(kind, answer), hint)
 
 
 @pytest.mark.parametrize(('text', 'answer'), rows('proved'))

@@ -92,6 +92,7 @@ def matches(pattern, lines):
 # ---- nonobench
 
 
+@pytest.mark.since('0.8.0')
 def test_words(nonobench, offered):
     commands = commands_of(nonobench)
     assert len(commands) > 3
@@ -117,6 +118,7 @@ def test_values(nonobench, offered):
         assert offered('nonobench', command, option, '') == set()
 
 
+@pytest.mark.since('0.8.0')
 def test_words_in_zsh(nonobench, zsh):
     commands = commands_of(nonobench)
     lines = zsh('nonobench', '')
@@ -126,6 +128,7 @@ def test_words_in_zsh(nonobench, zsh):
     assert matches(r'^(--[a-z]*)\[', lines) == options_of(nonobench)
 
 
+@pytest.mark.since('0.8.0')
 def test_options_and_files_in_zsh(nonobench, zsh):
     """An option with a value has a colon behind its text, and there are as many files as
     arguments."""

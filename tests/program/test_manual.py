@@ -6,7 +6,7 @@
   in the synopsis in the same place, and nothing else is; each of these options is described.
 - The commands of a session, each with its arguments, are those of the list in docs/SESSION.md.
 - The names of refusals are those that sessions print.
-- Each line that can come on standard error is in both pages.
+- Each line that can come on standard error is in both pages, as the code has it.
 """
 
 import re
@@ -54,8 +54,9 @@ def synopsis():
             yield f'{word} -{name}' + (f' {rest[1]}' if rest[:1] == ['Ar'] else '')
 
 
-def test_synopsis(kept):
-    program = kept.program('nonobench')
+@pytest.mark.since('0.8.0')
+def test_synopsis(build):
+    program = build.program('nonobench')
     known = words_of(program)
     for word in [line.split()[1] for line in known if line.startswith('word ')]:
         known |= words_of(program, word)
@@ -75,7 +76,7 @@ def test_each_option_is_described():
 
 
 def test_commands_of_a_session():
-    told = {
+    listed = {
         line.removeprefix('.It Ic ').replace(' Ar ', ' ')
         for line in section('COMMANDS OF A SESSION', r'^\.Sh')
         if line.startswith('.It Ic')
@@ -86,12 +87,12 @@ def test_commands_of_a_session():
     )
     known = {command for head in heads if head for command in re.findall(r'`([^`]*)`', head[0])}
     assert len(known) > 10
-    assert told == known
+    assert listed == known
 
 
 def test_names_of_refusals():
     lines = (line.split() for line in section('Refusals', r'^\.S[hs]'))
-    told = {
+    listed = {
         parts[1]
         for parts in lines
         if parts[0] == '.Ql' and len(parts) < 4 and parts[1][0].isupper()
@@ -103,20 +104,25 @@ def test_names_of_refusals():
         )
     )
     assert known
-    assert told == known
+    assert listed == known
 
 
 def test_lines_on_standard_error():
-    """A paint cannot be asked for on the command line, so its refusal is not in the page."""
-    told = {
+    """A paint cannot be asked for on the command line, so its refusal is not in the page. Of the
+    texts in the code, some are of answers without a line, or are one of `non NAME`."""
+    listed = {
         line.removeprefix('.It ')
         for line in section('DIAGNOSTICS')
         if line.startswith('.It nonobench: ')
     }
     heads = (re.match(r'- `(nonobench: [^`]*)`: ', line) for line in part_of_formats('The program'))
     known = {head[1] for head in heads if head and ': edit ' not in head[1]}
-    assert known
-    assert told == known
+    assert listed == known
+    code = (ROOT / 'crates' / 'program_options' / 'src' / 'fault.rt').read_text()
+    written = set(re.findall(r'f\.write_str\(\s*"([^"]+)"', code))
+    silent = {'no certificate', 'unfit', 'non NoGoal'}
+    assert silent < written
+    assert {f'nonobench: {text}' for text in written - silent} < known
 
 
 def test_audit(library):

@@ -72,11 +72,11 @@ def test_growths_of_the_library(refusing, refused_tests, subject):
 @pytest.mark.toolchain
 @pytest.mark.compiler
 @pytest.mark.parametrize('run', RUNS)
-def test_growths_of_the_program(kept, run):
+def test_growths_of_the_program(build, run):
     needs('cc')
     passes(
         [sys.executable, HERE / 'refuse_growths.py', run],
-        env={'PROGRAM': str(kept.program('nonobench'))},
+        env={'PROGRAM': str(build.program('nonobench'))},
     )
 
 
@@ -84,8 +84,8 @@ def test_growths_of_the_program(kept, run):
 @pytest.mark.parametrize(
     'kind', [BUILT[0], pytest.param(BUILT[1], marks=pytest.mark.toolchain)], ids=('llvm', 'rattle')
 )
-def test_streams(kept, kind):
+def test_streams(build, kind):
     passes(
         [sys.executable, HERE / 'refuse_streams.py'],
-        env={'PROGRAM': str(kept.program(f'nonobench{kind}'))},
+        env={'PROGRAM': str(build.program(f'nonobench{kind}'))},
     )

@@ -70,6 +70,6 @@ def test_session(program, file, tmp_path):
     wanted_front, wanted_picture, wanted_cert = cut(file.with_suffix('.out').read_bytes().decode())
     assert front == '\n'.join(chosen(wanted_front, front))
     if file.read_bytes().removesuffix(b'\n').rpartition(b'\n')[2] == b'certify':
-        told = checked(program.path, tmp_path, picture, cert, background)
-        assert (told.status, told.said) == (0, b'')
-        assert told == checked(program.path, tmp_path, wanted_picture, wanted_cert, background)
+        run = checked(program.path, tmp_path, picture, cert, background)
+        assert (run.status, run.said) == (0, b'')
+        assert run == checked(program.path, tmp_path, wanted_picture, wanted_cert, background)

@@ -28,11 +28,11 @@ def test_calls():
     assert sorted(CALL.findall('\n'.join(code))) == CALLS
 
 
-def test_a_name_stays_as_it_is(kept, tmp_path):
+def test_a_name_stays_as_it_is(build, tmp_path):
     """Blanks, points and line feeds belong to a name: only the file that is called so is opened."""
 
     def status(name):
-        return ended([kept.program('nonobench'), 'work', name], cwd=tmp_path).status
+        return ended([build.program('nonobench'), 'work', name], cwd=tmp_path).status
 
     for name in (' a.ppm', 'a.ppm ', '\ta.ppm', 'a.ppm\n', 'A.PPM', 'a.ppm.'):
         (tmp_path / name).write_text('P3 1 1 1 0 0 0\n', encoding='ascii')

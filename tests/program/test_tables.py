@@ -19,8 +19,8 @@ TABLES = [
 @pytest.mark.toolchain
 @pytest.mark.parametrize('kind', BUILT, ids=('llvm', 'rattle'))
 @pytest.mark.parametrize(('folder', 'file'), TABLES, ids=[file.stem for _, file in TABLES])
-def test_table(kept, folder, file, kind):
-    program = needs_file(kept.program(f'{folder}{kind}'), 'rt ci')
+def test_table(build, folder, file, kind):
+    program = needs_file(build.program(f'{folder}{kind}'), 'rt ci')
     text = file.read_text()
     wanted = [line[2:] for line in text.splitlines() if re.match(r'=( |$)', line)]
     assert wanted, 'it expects nothing'

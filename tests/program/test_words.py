@@ -345,6 +345,7 @@ HELP = {
 }
 
 
+@pytest.mark.since('0.8.0')
 @pytest.mark.parametrize('name', HELP)
 def test_help(program, name):
     words, line = HELP[name]

@@ -95,7 +95,7 @@ class Library:
         return self.calls.nonobench_take(self.at, self.room, ctypes.c_size_t(len(self.room)))
 
 
-class Way:
+class Walk:
     """Goes in one session from a document of a size to another, and asks for assessment and path of
     each."""
 
@@ -184,32 +184,32 @@ class Way:
 
 def all_givens(library, asks, height, width, colours):
     """All pictures of a size with all sets of givens; how many."""
-    way = Way(library, asks, height, width, colours)
+    walk = Walk(library, asks, height, width, colours)
     sets = [
-        frozenset(itertools.compress(way.cells, chosen))
-        for chosen in itertools.product((0, 1), repeat=len(way.cells))
+        frozenset(itertools.compress(walk.cells, chosen))
+        for chosen in itertools.product((0, 1), repeat=len(walk.cells))
     ]
-    for number, rows in enumerate(way.listing.pictures):
-        others = way.others(rows)
+    for number, rows in enumerate(walk.listing.pictures):
+        others = walk.others(rows)
         for givens in sets:
-            way.go(rows, givens)
-            way.ask(others, (number + len(givens)) % 2 == 0)
-        way.judge()
-    return len(way.listing.pictures) * len(sets)
+            walk.go(rows, givens)
+            walk.ask(others, (number + len(givens)) % 2 == 0)
+        walk.judge()
+    return len(walk.listing.pictures) * len(sets)
 
 
 def some_givens(library, asks, count):
     """Pictures with sets of givens by lot, of one size; how many."""
     chance = random.Random(1)
-    way = Way(library, asks, *LOT)
+    walk = Walk(library, asks, *LOT)
     for number in range(count):
-        rows = chance.choice(way.listing.pictures)
+        rows = chance.choice(walk.listing.pictures)
         share = chance.choice((0, 0.1, 0.3, 0.6, 1))
-        way.go(rows, frozenset(cell for cell in way.cells if chance.random() < share))
-        way.ask(way.others(rows), number % 2 == 0)
+        walk.go(rows, frozenset(cell for cell in walk.cells if chance.random() < share))
+        walk.ask(walk.others(rows), number % 2 == 0)
         if number % 500 == 0:
-            way.judge()
-    way.judge()
+            walk.judge()
+    walk.judge()
     return count
 
 

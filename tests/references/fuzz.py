@@ -221,19 +221,19 @@ class Fuzzer:
     def keep(self, kind, number, case, run, message):
         """Keeps a case as files."""
         self.kept += 1
-        place = os.path.join(self.folder, f'{kind}-{self.seed}-{number}')
-        os.makedirs(place, exist_ok=True)
+        path = os.path.join(self.folder, f'{kind}-{self.seed}-{number}')
+        os.makedirs(path, exist_ok=True)
         files = dict(case.files)
         if run is not None:
             files.update({'wrote': run.wrote, 'said': run.said})
-        told = f'{message}\nstatus: {run and run.status}\nwords: {" ".join(case.words)}\n'
+        report = f'{message}\nstatus: {run and run.status}\nwords: {" ".join(case.words)}\n'
         files['disagreement'] = (
-            told + f'again: tests/references/fuzz.py 1 {self.seed} {kind} {number}\n'
+            report + f'again: tests/references/fuzz.py 1 {self.seed} {kind} {number}\n'
         ).encode()
         for name, text in files.items():
-            with open(os.path.join(place, name), 'wb') as file:
+            with open(os.path.join(path, name), 'wb') as file:
                 file.write(text)
-        print(f'disagreement kept in {place}: {message[:500]}', flush=True)
+        print(f'disagreement kept in {path}: {message[:500]}', flush=True)
 
     def report(self, done, took):
         """Tells how the cases ended."""

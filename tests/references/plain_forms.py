@@ -240,7 +240,7 @@ def read_certificate(data):
 
 
 class Tree:
-    """Where a `nonocert` is: `places` are the branches that have not ended, the one at hand last;
+    """Where a `nonocert` is: `places` are the branches that have not ended, the open one last;
     `nests` says in how many splits each of them stands."""
 
     def __init__(self, puzzle, facts):
@@ -375,7 +375,7 @@ def check(puzzle, data, published=None):
 def read_published(puzzle, data):
     published = set()
     for at, line in enumerate(lines_of(data), 1):
-        match = GIVEN.fullmatch(line)
+        match = GIVEN.fullmatch(line.removesuffix('\r'))
         if not match:
             raise Fault('BadLine', at)
         given = int(match[1]), int(match[2])
@@ -636,10 +636,10 @@ def worked():
     for kind in ('certificates', 'lemmas'):
         for line in (Path(__file__).parents[1] / 'cases' / f'{kind}.case').read_text().splitlines():
             if line and line[0] != '#':
-                asked, told = line.split(' => ')
+                asked, wanted = line.split(' => ')
                 rows, text = asked.split(' ', 1)
                 yield shown(rows), text.encode().decode('unicode_escape').encode('latin-1'), re.sub(
-                    '^(! )?certificate ', '', told
+                    '^(! )?certificate ', '', wanted
                 )
     grades = (Path(__file__).parents[1] / 'cases/grade.case').read_text()
     for rows, text, figures in re.findall(
@@ -717,15 +717,15 @@ def longest():
 def main(program, seed='1', count='4000'):
     cases = [(b'P3 1 1 9 9 9 9', '\n'.join(lines).encode(), None) for lines in bounds()]
     cases += seeded(random.Random(int(seed)), int(count))
-    told = []
+    checked = []
     for picture, text, wanted in worked():
         found = answer(picture, text)
         if wanted not in (found, found.split(', splits')[0]):
             sys.exit(f'{text}\nplain_forms: {found}\ntests/cases: {wanted}')
-        told.append((picture, text, found))
-    told += longest()
-    wanted = [answer(*case) for case in cases] + [one for _, _, one in told]
-    cases += [(picture, text, None) for picture, text, _ in told]
+        checked.append((picture, text, found))
+    checked += longest()
+    wanted = [answer(*case) for case in cases] + [one for _, _, one in checked]
+    cases += [(picture, text, None) for picture, text, _ in checked]
     with tempfile.TemporaryDirectory() as folder:
         named = []
         for k, case in enumerate(cases):

@@ -38,7 +38,7 @@ PROGRAMS, WINDOWS, LEMMAS = (
 )
 TREES, GROWING, LAST = (0, 0, 0, 0, 10000), (0, 0, 0, 0, 1), (0, 0, 0, 0, 0)
 BOUNDS = (PROGRAMS, WINDOWS, LEMMAS, TREES, GROWING, LAST, (1, 5, 1, 1, 7))
-TOLD = re.compile(
+SAID = re.compile(
     r'(unique|ambiguous), (\d+) searched, (\d+) splits, (\d+) evaluations(?:: (\S+))?'
 )
 
@@ -87,12 +87,12 @@ def accept(rows, givens, text):
         raise Disagreement(f'the certificate is refused: {fault}') from fault
 
 
-def compare(bounds, case, told, cert):
-    """What is told of a picture within bounds; its splits and evaluations, or None where no part is
+def compare(bounds, case, said, cert):
+    """What is said of a picture within bounds; its splits and evaluations, or None where no part is
     open."""
     rows, givens, others = case
-    found = TOLD.fullmatch(told)
-    agree(found is not None, f'{told} was answered')
+    found = SAID.fullmatch(said)
+    agree(found is not None, f'{said} was answered')
     word, searched, splits, evaluations, other = found.groups()
     agree(
         (word == 'ambiguous') == bool(others),
@@ -150,9 +150,9 @@ def compare_all(program):
     answers = run.stdout.decode().splitlines()
     agree(len(answers) == 2 * len(asked), f'{len(answers)} lines answer {len(asked)} calls')
     work = Work()
-    for (bounds, case), told, cert in zip(asked, answers[::2], answers[1::2]):
+    for (bounds, case), said, cert in zip(asked, answers[::2], answers[1::2]):
         try:
-            done = compare(bounds, case, told, cert)
+            done = compare(bounds, case, said, cert)
         except (Disagreement, plain_forms.Fault) as wrong:
             raise Disagreement(f'{text_of(*case[:2])} within {bounds}: {wrong}') from wrong
         if done is not None:

@@ -15,19 +15,19 @@ def compares(script, *words, **more):
     passes([sys.executable, HERE / script, *words], **more)
 
 
-def test_small_pictures(kept):
+def test_small_pictures(build):
     """One listing serves all programs."""
     compares(
         'small_pictures.py',
-        *[kept.program(f'nonobench{kind}') for kind in BUILT if not (kind and kept.released)],
+        *[build.program(f'nonobench{kind}') for kind in BUILT if not (kind and build.released)],
     )
 
 
 @pytest.mark.toolchain
-def test_small_bounds(kept):
+def test_small_bounds(build):
     compares(
         'small_bounds.py',
-        *[needs_file(kept.program(f'search_tables{kind}'), 'rt ci') for kind in BUILT],
+        *[needs_file(build.program(f'search_tables{kind}'), 'rt ci') for kind in BUILT],
     )
 
 
@@ -36,10 +36,10 @@ def test_small_bounds(kept):
 @pytest.mark.parametrize(
     ('script', 'tables'), [('lemma_pictures.py', 'lemma_tables'), ('plain_forms.py', 'cert_tables')]
 )
-def test_certificates(kept, script, tables, kind):
+def test_certificates(build, script, tables, kind):
     """With lemmas; and of all forms, with and without published givens, against a checker that was
     written from the documents alone."""
-    compares(script, needs_file(kept.program(f'{tables}{kind}'), 'rt ci'))
+    compares(script, needs_file(build.program(f'{tables}{kind}'), 'rt ci'))
 
 
 @pytest.mark.parametrize('part', ('givens', 'lot', 'documents'))
@@ -48,11 +48,11 @@ def test_assessments(library, part):
     compares('assessments.py', library, part)
 
 
-def test_cases_made_by_chance(kept, tmp_path):
+def test_cases_made_by_chance(build, tmp_path):
     """Some seeded cases of the fuzzer, the same each time."""
     compares(
         'fuzz.py',
         '1000',
         '1',
-        env={'PROGRAM': str(kept.program('nonobench')), 'FUZZ_FOLDER': str(tmp_path)},
+        env={'PROGRAM': str(build.program('nonobench')), 'FUZZ_FOLDER': str(tmp_path)},
     )

@@ -1,8 +1,21 @@
-// Uses every type that the package for npm names, for TypeScript's compiler alone: tsc --noEmit --strict.
+// Uses every type that the package for npm names, for TypeScript's compiler alone:
+// tsc --noEmit --strict.
 import { Fault, load } from 'nonobench';
 import { Worker } from 'nonobench/worker';
 import type { WorkerBench } from 'nonobench/worker';
-import type { Bench, CheckOptions, Checked, Engine, Input, OpenOptions, Place, ProveOptions, Proved } from 'nonobench';
+import type {
+  Bench,
+  CheckOptions,
+  Checked,
+  Clues,
+  Engine,
+  Input,
+  OpenOptions,
+  Palette,
+  Place,
+  ProveOptions,
+  Proved,
+} from 'nonobench';
 
 const options: OpenOptions = { history: 100, background: null, format: 'ppm' };
 
@@ -15,20 +28,40 @@ function answer(engine: Engine, picture: Input): string {
   }
 }
 
-function proved(engine: Engine, picture: Input, options: ProveOptions, published: CheckOptions): Checked | string {
-  const found: Proved = engine.prove(picture, options);
-  return found.ruling === 'unique' ? engine.check(picture, found.certificate, published) : found.ruling;
+function colours(engine: Engine, picture: Input): Palette {
+  const { palette }: Clues = engine.clues(picture);
+  const [red, green, blue] = engine.assess(picture).palette['.'] ?? [0, 0, 0];
+  return { ...palette, '.': [red, green, blue] };
 }
 
-export async function tried(picture: Uint8Array, certificate: string, published: Place[]): Promise<Checked | string> {
+function proved(
+  engine: Engine,
+  picture: Input,
+  options: ProveOptions,
+  published: CheckOptions,
+): Checked | string {
+  const found: Proved = engine.prove(picture, options);
+  if (found.ruling !== 'unique') return found.ruling;
+  return engine.check(picture, found.certificate, published);
+}
+
+export async function tried(
+  picture: Uint8Array,
+  certificate: string,
+  published: Place[],
+): Promise<Checked | string> {
   const engine = await load();
   const other: Engine = await load(new Uint8Array(0).buffer);
   try {
     const checked: Checked = engine.check(picture, certificate, { published });
     const { accepted, status, text }: { accepted: boolean; status: number; text: string } = checked;
-    return accepted ? checked : `${status} ${text} ${other.version} ${answer(engine, picture)} ${proved(other, picture, {}, {})}`;
+    if (accepted) return checked;
+    const letters = Object.keys(colours(engine, picture));
+    const answers = [answer(engine, picture), proved(other, picture, {}, {})];
+    return `${status} ${text} ${other.version} ${letters} ${answers}`;
   } catch (fault) {
-    return fault instanceof Fault ? `${fault.kind} ${fault.name} ${fault.byte ?? fault.line}: ${fault.text}` : String(fault);
+    if (!(fault instanceof Fault)) return String(fault);
+    return `${fault.kind} ${fault.name} ${fault.byte ?? fault.line}: ${fault.text}`;
   }
 }
 
@@ -37,7 +70,8 @@ export async function inTime(picture: Uint8Array, module: WebAssembly.Module): P
   try {
     const bench: WorkerBench = await worker.open(picture, options);
     const { fit } = await worker.assess(picture, { allowance: 100 });
-    return `${fit} ${await bench.say('clues\n')} ${await worker.version} ${(await load(module)).version}`;
+    const versions = [await worker.version, (await load(module)).version];
+    return `${fit} ${await bench.say('clues\n')} ${versions}`;
   } finally {
     worker.close();
   }

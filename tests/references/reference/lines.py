@@ -90,22 +90,22 @@ def narrow_by_listing(clue, masks):
 
 
 def moves_from(clue, masks, ends, i, b):
-    """The ways on from cell i with block b to come: the next cell and block, and the cells that
-    each way colours."""
+    """The moves from cell i with block b to come: the next cell and block, and the cells that
+    each move colours."""
     length = len(masks)
-    ways = []
+    moves = []
     if i < length and masks[i] & 1:
-        ways.append((i + 1, b, ((i, i + 1, 0),)))
+        moves.append((i + 1, b, ((i, i + 1, 0),)))
     if b < len(clue):
         size, colour = clue[b]
         end = i + size
         if end <= length and ends[colour][i] >= end:
             same = b + 1 < len(clue) and clue[b + 1][1] == colour
             if not same:
-                ways.append((end, b + 1, ((i, end, colour),)))
+                moves.append((end, b + 1, ((i, end, colour),)))
             elif end < length and masks[end] & 1:
-                ways.append((end + 1, b + 1, ((i, end, colour), (end, end + 1, 0))))
-    return ways
+                moves.append((end + 1, b + 1, ((i, end, colour), (end, end + 1, 0))))
+    return moves
 
 
 def runs_allowed(masks, colours):
@@ -126,7 +126,7 @@ def narrow_by_places(clue, masks):
     """The same as `narrow_by_listing`, by a table over cells and blocks."""
     length, blocks = len(masks), len(clue)
     ends = runs_allowed(masks, {colour for _, colour in clue})
-    ways = {
+    moves = {
         (i, b): moves_from(clue, masks, ends, i, b)
         for i in range(length + 1)
         for b in range(blocks + 1)
@@ -134,7 +134,7 @@ def narrow_by_places(clue, masks):
     done = {(length, blocks)}
     for i in range(length - 1, -1, -1):
         for b in range(blocks + 1):
-            if any((j, c) in done for j, c, _ in ways[i, b]):
+            if any((j, c) in done for j, c, _ in moves[i, b]):
                 done.add((i, b))
     if (0, 0) not in done:
         return None
@@ -144,7 +144,7 @@ def narrow_by_places(clue, masks):
         for b in range(blocks + 1):
             if (i, b) not in reached:
                 continue
-            for j, c, painted in ways[i, b]:
+            for j, c, painted in moves[i, b]:
                 if (j, c) in done:
                     reached.add((j, c))
                     for start, end, colour in painted:

@@ -95,7 +95,7 @@ def test_pictures():
 
 
 def test_texts():
-    """Worked texts of the three formats."""
+    """Worked texts of P3, .non and certificates: what is wrong with each, and where."""
     for text, fault in (
         (b'', ('NotP3', 0)),
         (b'P3', ('Truncated', 2)),

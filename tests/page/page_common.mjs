@@ -1,10 +1,12 @@
 // What the trials of the page have in common: files that are dropped, tabs of their own, downloads,
-// menus, a server, a hard picture.
+// menus, a server, a hard picture, and what the page calls a cell.
 import assert from 'node:assert/strict';
 import {mkdirSync, readFileSync, readdirSync, rmSync, writeFileSync} from 'node:fs';
 import {createServer} from 'node:http';
 import {extname, join} from 'node:path';
-import {SIZES, SLACK, Trial, ppmOf} from './page_trial.mjs';
+import {phrase} from '../../page/texts/phrase.js';
+import {waitFor} from './page_browser.mjs';
+import {SIZES, Trial, ppmOf} from './page_trial.mjs';
 
 export const examples = new URL('../../examples/', import.meta.url);
 export const DUCK = [
@@ -26,9 +28,9 @@ export const frames = (page) => page.run(
     )
 );
 export const said = (page) => page.run(() => document.getElementById('said').textContent);
-export const isOpen = (page, ms = 8000) =>
+export const isOpen = (page) =>
     page.until(
-            () => !document.body.classList.contains('starting') && bench.state !== null, ms * SLACK
+            () => !document.body.classList.contains('starting') && bench.state !== null
     ).catch(async () => {
       throw new Error(`nothing is open: ${await said(page)} ${page.faults.join('; ')} ${
           await page.run(
@@ -36,7 +38,7 @@ export const isOpen = (page, ms = 8000) =>
                   document.querySelector('dialog[open]')?.textContent}`
           )}`);
     });
-export const isKept = (page) => page.until(() => keep.keeper.isDone && keep.isKept, 5000 * SLACK);
+export const isKept = (page) => page.until(() => keep.keeper.isDone && keep.isKept);
 
 /** Writes a file to the folder and drops it on the middle of the window. */
 export async function drop(page, folder, name, content) {
@@ -58,9 +60,7 @@ export async function drop(page, folder, name, content) {
       'the page hears of a file that is over it'
   );
   await send('drop');
-  await page.until(
-      () => !document.body.classList.contains('dropping'), 3000 * SLACK
-  );  // and that it was dropped
+  await page.until(() => !document.body.classList.contains('dropping'));  // and that it was dropped
 }
 
 /** A tab of its own without file access, in a folder of its own for downloads. */
@@ -85,22 +85,25 @@ export const clean = (page) => page.run(async () => {
 
 /** Goes on with the first that the browser keeps. */
 export async function goOn(page) {
-  await page.until(() => document.querySelector('#kept .kept'), 5000 * SLACK);
+  await page.until(() => document.querySelector('#kept .kept'));
   await page.click('#kept .kept');
 }
 
 /** The text of the first download with an ending. */
 export async function downloaded(page, own, ending) {
-  for (let tries = 0; tries < 200 * SLACK; tries++) {
+  return waitFor(() => {
     const name = readdirSync(own).find((one) => one.endsWith(ending));
-    if (name) {
-      const content = readFileSync(join(own, name));
-      if (content.length) return {name, content};
-    }
-    await new Promise((go) => setTimeout(go, 25));
-  }
-  throw new Error(`no download ${ending}`);
+    const content = name && readFileSync(join(own, name));
+    return content?.length && {name, content};
+  }, `a download ${ending}`);
 }
+
+/** A cell, counted from 1, as the page names it within a text. */
+export const cellName = (row, column) => phrase('view.placeOfCell', {value: row, columns: column});
+
+/** A pattern of the names of all cells that lie in some rows and columns. */
+export const cellNames = (rows, columns) =>
+    `(${rows.flatMap((row) => columns.map((column) => cellName(row, column))).join('|')})`;
 
 /** Does what a menu has. */
 export const act = (page, id) => page.run((one) => {
@@ -133,10 +136,8 @@ export async function coloursAt(page, points) {
 }
 
 /** Waits until the dialog for pictures tells a text of what is made. */
-export const facts = (page, text, ms = 10000) => page.until(
-    (wanted) => document.querySelector('#import-facts')?.textContent.includes(wanted),
-    ms * SLACK,
-    text
+export const facts = (page, text) => page.until(
+    (wanted) => document.querySelector('#import-facts')?.textContent.includes(wanted), text
 );
 
 /**
@@ -156,7 +157,7 @@ export async function openDrawn(
     const blob = await new Promise((go) => canvas.toBlob(go, kind));
     takeFile(new File([blob], file, {type: kind}));
   }, width, height, parts, name, type);
-  await page.until(() => document.querySelector('#import-facts')?.textContent, 10000 * SLACK);
+  await page.until(() => document.querySelector('#import-facts')?.textContent);
 }
 
 /** A chequered picture on which neither verdict nor certificate came in a minute and a half. */

@@ -1,9 +1,9 @@
-// Trials of the page's ways in, in Chromium: a new picture, files that are dropped, pasted or
-// chosen. Each is a test of the runner tests/page/page_test.mjs.
+// Trials of how pictures come into the page, in Chromium: a new picture, files that are dropped,
+// pasted or chosen. Each is a test of the runner tests/page/page_test.mjs.
 import assert from 'node:assert/strict';
 import {readFileSync} from 'node:fs';
 import {join} from 'node:path';
-import {drop, DUCK, examples, frames, fresh, isOpen, said} from './page_hands.mjs';
+import {drop, DUCK, examples, frames, fresh, isOpen, said} from './page_common.mjs';
 import {SIZES, SLACK} from './page_trial.mjs';
 
 /** A painted cell within two clicks, by mouse and by keyboard. */
@@ -29,9 +29,8 @@ export async function newPicture({page, trial}) {
 export async function droppedPng({page, folder, trial}) {
   await drop(page, folder, 'duck.png', readFileSync(new URL('duck.png', examples)));
   await page.until(
-      () => document.querySelector('#import-facts'
-      )?.textContent.includes('10 by 10 cells, 4 colours'),
-      5000 * SLACK
+      () =>
+          document.querySelector('#import-facts')?.textContent.includes('10 by 10 cells, 4 colours')
   );
   await page.shot(join(folder, 'importing.png'));
   await page.press('Enter');
@@ -68,9 +67,7 @@ export async function pastedPhoto({page, folder, trial}) {
     dispatchEvent(new ClipboardEvent('paste', {clipboardData}));
   });
   const facts = (text) => page.until(
-      (wanted) => document.querySelector('#import-facts')?.textContent.includes(wanted),
-      10000 * SLACK,
-      text
+      (wanted) => document.querySelector('#import-facts')?.textContent.includes(wanted), text
   );
   await facts('40 by 30 cells, 6 colours');
   const times = [];
@@ -126,16 +123,14 @@ export async function pastedPhoto({page, folder, trial}) {
 /** Dark and light by a threshold, turned. */
 export async function twoColours({page, folder, trial}) {
   await drop(page, folder, 'apple.png', readFileSync(new URL('duck.png', examples)));
-  await page.until(() => document.querySelector('#import-facts')?.textContent, 5000 * SLACK);
+  await page.until(() => document.querySelector('#import-facts')?.textContent);
   await page.run(
       () => [...document.querySelectorAll('.importing label')]
                 .find((one) => one.textContent.includes('Two colours'))
                 .querySelector('input')
                 .click()
   );
-  await page.until(
-      () => document.querySelector('#import-facts').textContent.includes('2 colours'), 5000 * SLACK
-  );
+  await page.until(() => document.querySelector('#import-facts').textContent.includes('2 colours'));
   await page.press('Enter');
   await isOpen(page);
   assert.deepEqual((await trial.state()).colours, [[255, 255, 255], [0, 0, 0]]);
@@ -154,7 +149,7 @@ export async function otherMaxval({page, folder, trial}) {
   assert.deepEqual((await trial.state()).colours[3], [200, 100, 50]);
   const raw = Buffer.concat([Buffer.from('P6 2 1 15\n'), Buffer.from([15, 15, 15, 15, 7, 0])]);
   await drop(page, folder, 'two.ppm', raw);
-  await page.until(() => bench.state.columns === 2 && bench.state.rows === 1, 5000 * SLACK);
+  await page.until(() => bench.state.columns === 2 && bench.state.rows === 1);
   assert.deepEqual((await trial.state()).colours, [[255, 255, 255], [255, 119, 0]]);
 }
 
@@ -172,7 +167,7 @@ export async function largePhoto({page}) {
     const blob = await new Promise((go) => canvas.toBlob(go, 'image/jpeg'));
     takeFile(new File([blob], 'photo.jpg', {type: 'image/jpeg'}));
   });
-  await page.until(() => document.querySelector('dialog[open] .importing'), 20000 * SLACK);
+  await page.until(() => document.querySelector('dialog[open] .importing'));
   await page.press('Enter');
   await isOpen(page);
   const {rows, columns, picture} = await page.run(() => bench.state);
@@ -208,8 +203,7 @@ export async function refusedFiles({page, folder}) {
     });
     await drop(page, folder, name, content);
     await page.until(
-        () => document.getElementById('said').textContent.includes('could not be opened'),
-        10000 * SLACK
+        () => document.getElementById('said').textContent.includes('could not be opened')
     );
     assert.match(await said(page), wanted, name);
     assert.equal(await page.run(() => bench.state), null, name);
@@ -219,22 +213,18 @@ export async function refusedFiles({page, folder}) {
 /** A file that is dropped or pasted while a dialog is open is taken: the dialog is left. */
 export async function droppedOnDialogs({page, folder, trial}) {
   const duck = readFileSync(new URL('duck.png', examples));
-  const opened = (wanted) => page.until((name) => bench.name === name, 5000 * SLACK, wanted);
+  const opened = (wanted) => page.until((name) => bench.name === name, wanted);
   await drop(page, folder, 'first.png', duck);
-  await page.until(
-      () => document.querySelector('#dialog-title')?.textContent.startsWith('first'), 5000 * SLACK
-  );
+  await page.until(() => document.querySelector('#dialog-title')?.textContent.startsWith('first'));
   await drop(page, folder, 'second.png', duck);  // beside the dialog and over it
-  await page.until(
-      () => document.querySelector('#dialog-title')?.textContent.startsWith('second'), 5000 * SLACK
-  );
+  await page.until(() => document.querySelector('#dialog-title')?.textContent.startsWith('second'));
   assert.equal(await page.run(() => document.querySelectorAll('dialog').length), 1);
   await page.press('Enter');
   await isOpen(page);
   assert.deepEqual(await trial.picture(), DUCK);
   for (const [dialog, name] of [['play', 'flower'], ['resize', 'apple'], ['keys', 'heart']]) {
     await page.run((id) => runAction(id), dialog);
-    await page.until(() => document.querySelector('dialog[open]'), 3000 * SLACK);
+    await page.until(() => document.querySelector('dialog[open]'));
     await drop(page, folder, `${name}.ppm`, readFileSync(new URL(`${name}.ppm`, examples)));
     await opened(name);
     assert.equal(
@@ -251,8 +241,7 @@ export async function droppedOnDialogs({page, folder, trial}) {
   await page.run(() => runAction('keys'));
   await drop(page, folder, 'none.bin', 'x'.padEnd(20, '\0'));
   await page.until(
-      () => document.getElementById('said').textContent.includes('“none.bin” could not be opened'),
-      5000 * SLACK
+      () => document.getElementById('said').textContent.includes('“none.bin” could not be opened')
   );
 }
 
@@ -272,13 +261,10 @@ export async function cluesAlone({browser, url, folder}) {
       `width 60\nheight 60\nrows\n${lines('1,1')}\ncolumns\n${lines('1,1,1')}\n`
   );
   await page.until(
-      () => document.querySelector('dialog[open]')?.textContent.includes('Searching for a picture'),
-      8000 * SLACK
+      () => document.querySelector('dialog[open]')?.textContent.includes('Searching for a picture')
   );
   await page.press('Enter');
-  await page.until(
-      () => document.getElementById('said').textContent.includes('stopped'), 2000 * SLACK
-  );
+  await page.until(() => document.getElementById('said').textContent.includes('stopped'));
   assert.deepEqual(await trial.picture(), ['aaa', '.a.']);
   await page.close();
 }
@@ -322,7 +308,7 @@ export async function narrowStart({browser, url, folder}) {
   assert.deepEqual(await wide(), []);
   await page.shot(join(folder, 'start-phone.png'));
   await drop(page, own, 'duck.png', readFileSync(new URL('duck.png', examples)));
-  await page.until(() => document.querySelector('#import-facts')?.textContent, 5000 * SLACK);
+  await page.until(() => document.querySelector('#import-facts')?.textContent);
   await frames(page);
   assert.deepEqual(await wide(), []);
   await page.shot(join(folder, 'importing-phone.png'));
