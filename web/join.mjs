@@ -5,7 +5,7 @@
 // and with a page that is too long with 1.
 import {execFileSync, spawnSync} from 'node:child_process';
 import {createHash} from 'node:crypto';
-import {existsSync, mkdirSync, readFileSync, writeFileSync, copyFileSync, rmSync} from 'node:fs';
+import {mkdirSync, readFileSync, writeFileSync, copyFileSync, rmSync} from 'node:fs';
 import {join} from 'node:path';
 import {gzipSync} from 'node:zlib';
 import {signsOf} from '../page/engine/signs.js';
@@ -31,8 +31,13 @@ const MANIFEST = {
   start_url: './',
   scope: './',
   display: 'standalone',
-  icons: [{src: 'icon.svg', sizes: 'any', type: 'image/svg+xml'}],
+  icons: [
+    {src: 'icon.svg', sizes: 'any', type: 'image/svg+xml'},
+    {src: 'icon.png', sizes: '512x512', type: 'image/png'}
+  ],
 };
+// Of these, the home screen of iOS takes only the PNG.
+const ICONS = MANIFEST.icons.map(({src}) => src);
 
 const read = (...parts) => readFileSync(join(root, ...parts), 'utf8');
 
@@ -126,7 +131,9 @@ function pageTexts(version) {
         policyOf(
             [runs, code, drawing], style, served
         )}">\n<link rel="icon" href="data:image/svg+xml;base64,${icon}">${
-        served ? '\n<link rel="manifest" href="manifest.webmanifest">' : ''}`,
+        served ?
+            '\n<link rel="apple-touch-icon" href="icon.png">\n<link rel="manifest" href="manifest.webmanifest">' :
+            ''}`,
     '<!-- runs -->': `<script>${runs}</script>`,
     '<!-- style -->': `<style>${style}</style>`,
     '<!-- built -->': [
@@ -157,16 +164,14 @@ function filled(parts) {
 }
 
 // Lays out the folder of a site: the page as index.html, and what a browser needs to keep it and to
-// put it beside its programs.
+// put it among its programs.
 function writeSite(site, text) {
   rmSync(site, {recursive: true, force: true});
   mkdirSync(site, {recursive: true});
-  for (const name of ['nonobench.wasm', 'nonobench.mjs', 'nonobench.d.ts'])
-    if (existsSync(join(folder, name))) copyFileSync(join(folder, name), join(site, name));
-  const files = ['./', 'manifest.webmanifest', 'icon.svg'];
+  const files = ['./', 'manifest.webmanifest', ...ICONS];
   const sum = createHash('sha256').update(text).digest('hex').slice(0, 16);
   writeFileSync(join(site, 'index.html'), text);
-  copyFileSync(join(root, 'page', 'icon.svg'), join(site, 'icon.svg'));
+  for (const name of ICONS) copyFileSync(join(root, 'page', name), join(site, name));
   writeFileSync(join(site, 'manifest.webmanifest'), `${JSON.stringify(MANIFEST, null, 2)}\n`);
   writeFileSync(
       join(site, 'offline.js'),

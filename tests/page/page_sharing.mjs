@@ -673,7 +673,12 @@ export async function servedPage({browser, folder}) {
   await isKeptOffline(page);
   assert.deepEqual(
       [...new Set(asked)].filter(
-          (path) => !['/', '/manifest.webmanifest', '/icon.svg', '/offline.js', '/favicon.ico']
+          (path) => !['/',
+                      '/manifest.webmanifest',
+                      '/icon.svg',
+                      '/icon.png',
+                      '/offline.js',
+                      '/favicon.ico']
                          .includes(path)
       ),
       []
