@@ -15,10 +15,10 @@ HERE = Path(__file__).resolve().parent
 LIBRARY = "libnonobench.so"
 # What the package has: code, and the parts of the report that an audit makes.
 CARRIED = (".py", ".html", ".css", ".js")
-# What is put below the folder of an environment: the recipes and their examples, where they lie
-# beside this file.
-SHARED = "share"
-TAGS = "Wheel-Version: 1.0\nGenerator: nonobench\nRoot-Is-Purelib: {}\nTag: {}\n"
+# What is put below the folder of an environment, where these folders lie beside this file: recipes
+# with their examples, and programs.
+LAID = {"share": "data/share", "scripts": "scripts"}
+TAGS = "Wheel-Version: 1.0\nGenerator: nonobench\nRoot-Is-Purelib: {}\n"
 METADATA = (
     "Metadata-Version: 2.1\nName: {name}\nVersion: {version}\nSummary:"
     " {description}\nRequires-Python: {python}\nAuthor: {author}\nLicense: {licence}\nKeywords:"
@@ -31,12 +31,12 @@ FIRST_DAY = 315532800
 
 def build_wheel(wheel_directory, config_settings=None, metadata_directory=None):
     """Writes the wheel into a folder, and answers its name. The setting `platform` names the
-    platform of a library that is packed."""
+    platforms of a library that is packed, with a dot between them."""
     project = _project()
     files = _package()
     is_pure = f"nonobench/{LIBRARY}" not in files
-    platform = (config_settings or {}).get("platform", sysconfig.get_platform())
-    tag = "py3-none-" + ("any" if is_pure else re.sub(r"\W", "_", platform))
+    here = re.sub(r"\W", "_", sysconfig.get_platform())
+    platforms = "any" if is_pure else (config_settings or {}).get("platform", here)
     title = "{name}-{version}".format(**project)
     readme = (HERE / "README.md").read_text(encoding="utf-8")
     classifiers = (f"Classifier: {it}\n" for it in project["classifiers"])
@@ -48,19 +48,17 @@ def build_wheel(wheel_directory, config_settings=None, metadata_directory=None):
     files[
         f"{title}.dist-info/entry_points.txt"
     ] = f"[console_scripts]\n{project['scripts']}\n".encode()
-    shared = [file for file in sorted((HERE / SHARED).rglob("*")) if file.is_file()]
-    files.update(
-        {
-            f"{title}.data/data/{file.relative_to(HERE).as_posix()}": file.read_bytes()
-            for file in shared
-        }
-    )
+    for folder, place in LAID.items():
+        for file in sorted(filter(Path.is_file, (HERE / folder).rglob("*"))):
+            path = file.relative_to(HERE / folder).as_posix()
+            files[f"{title}.data/{place}/{path}"] = file.read_bytes()
     if (HERE / "NOTICES").is_file():
         files[f"{title}.dist-info/NOTICES"] = (HERE / "NOTICES").read_bytes()
-    files[f"{title}.dist-info/WHEEL"] = TAGS.format(str(is_pure).lower(), tag).encode()
+    tags = "".join(f"Tag: py3-none-{platform}\n" for platform in platforms.split("."))
+    files[f"{title}.dist-info/WHEEL"] = (TAGS.format(str(is_pure).lower()) + tags).encode()
     record = f"{title}.dist-info/RECORD"
     files[record] = "".join([*map(_line, files, files.values()), f"{record},,\n"]).encode()
-    name = f"{title}-{tag}.whl"
+    name = f"{title}-py3-none-{platforms}.whl"
     with zipfile.ZipFile(Path(wheel_directory, name), "w", zipfile.ZIP_DEFLATED) as wheel:
         for place, content in files.items():
             wheel.writestr(_entry(place), content)
@@ -126,7 +124,7 @@ def _entry(place):
     )
     entry.compress_type = zipfile.ZIP_DEFLATED
     entry.create_system = 3
-    entry.external_attr = 0o100644 << 16
+    entry.external_attr = (0o100755 if ".data/scripts/" in place else 0o100644) << 16
     return entry
 
 
