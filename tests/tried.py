@@ -2,15 +2,18 @@
 them, or as the release in dist/ has them."""
 
 import atexit
+import contextlib
 import fcntl
 import functools
 import hashlib
+import http.server
 import os
 import re
 import shutil
 import subprocess
 import tarfile
 import tempfile
+import threading
 from pathlib import Path
 
 import pytest
@@ -312,3 +315,13 @@ def dumped(url, home, run_by):
     run = run_by(['timeout', '600', *words, url])
     assert run.status == 0, run
     return run.wrote.decode()
+
+
+@contextlib.contextmanager
+def served(folder):
+    """The address of a server with the files of a folder."""
+    handler = functools.partial(http.server.SimpleHTTPRequestHandler, directory=folder)
+    with http.server.ThreadingHTTPServer(('127.0.0.1', 0), handler) as server:
+        threading.Thread(target=server.serve_forever, daemon=True).start()
+        yield f'http://127.0.0.1:{server.server_port}'
+        server.shutdown()

@@ -32,6 +32,8 @@ def archive(tmp_path):
     write(folder / 'bin/nonobench', PROGRAM, 0o755)
     write(folder / 'bin/nonobench-old', PROGRAM, 0o755)
     write(folder / 'lib/nonobench/nonobench/__init__.py', '')
+    write(folder / 'lib/libnonobench.so.0', '')
+    (folder / 'lib/libnonobench.so').symlink_to('libnonobench.so.0')
     for name in (
         'man/man1/nonobench.1',
         'bash-completion/completions/nonobench',
@@ -100,6 +102,7 @@ def test_installed_updated_and_removed(archive, home, shell, tmp_path):
         ['bin/mine', *LINKS, *(f'lib/nonobench/{name}' for name in installed)]
     )
     assert run([local / 'bin/nonobench'], home) == (0, 'nonobench 9.9.9\n', '')
+    assert os.readlink(lib / 'lib/libnonobench.so') == 'libnonobench.so.0'
     for one in lib.rglob('*'):  # others may use it, whatever the mask of who unpacked
         mode = 0o755 if one.is_dir() or one.name == 'install' or 'bin' in one.parts[-2:] else 0o644
         assert one.stat().st_mode & 0o777 == mode, one
@@ -140,7 +143,8 @@ def test_an_interrupted_run(archive, home):
 def test_a_program_that_does_not_run(archive, home):
     write(archive / 'bin/nonobench', '#!/nowhere\n', 0o755)
     status, out, err = run([archive / 'install'], home)
-    assert (status, out) == (1, '') and 'the program does not run here' in err
+    said = f'install: the program does not run here: {archive}/bin/nonobench ended with status '
+    assert (status, out) == (1, '') and said in err
     assert files(home) == ['.local/bin/mine']
 
 

@@ -1,16 +1,13 @@
 """The module for browsers: built twice to the same bytes, its functions beside what calls them, and
 what it answers beside the program."""
 
-import functools
-import http.server
 import re
 import shutil
 import sys
-import threading
 from pathlib import Path
 
 import pytest
-from tried import EXAMPLES, ROOT, dumped, ended, needs, needs_file, node_tests, passes
+from tried import EXAMPLES, ROOT, dumped, ended, needs, needs_file, node_tests, passes, served
 
 sys.path.append(str(ROOT / 'measure'))
 
@@ -88,13 +85,8 @@ def test_badge_in_a_browser(module, tmp_path):
         shutil.copy(file, tmp_path)
     for kind in ('wasm', 'mjs'):
         shutil.copy(module.with_name(f'nonobench-check.{kind}'), tmp_path)
-    handler = functools.partial(http.server.SimpleHTTPRequestHandler, directory=tmp_path)
-    with http.server.ThreadingHTTPServer(('127.0.0.1', 0), handler) as server:
-        threading.Thread(target=server.serve_forever, daemon=True).start()
-        shown = dumped(
-            f'http://127.0.0.1:{server.server_port}/badge.html', tmp_path / 'home', ended
-        )
-        server.shutdown()
+    with served(tmp_path) as url:
+        shown = dumped(f'{url}/badge.html', tmp_path / 'home', ended)
     right = 'one solution, checked in your browser'
     wanted = [right, right, 'not proved: certificate UnpublishedGiven at line 2']
     assert re.findall(r'<span class="badge \w+"[^>]*>([^<]*)<', shown) == wanted

@@ -5,14 +5,18 @@ for pairs that must be accepted, that must be refused, and whose givens are all 
 If CHANGELOG.md says that the version is released, dist/ must have the bytes of what was made.
 """
 
+import contextlib
 import functools
 import gzip
+import hashlib
 import http.server
+import json
 import os
 import queue
 import re
 import shutil
 import signal
+import struct
 import subprocess
 import sys
 import threading
@@ -31,6 +35,7 @@ from tried import (
     needs,
     node_tests,
     passes,
+    served,
     version_of,
 )
 
@@ -104,6 +109,15 @@ def try_call(
     prints(1, f'refused: {why.removeprefix("nonobench: ")}', [*words, *files['bad']], **more)
     prints(1, 'refused: certificate UnpublishedGiven at line 2', [*words, *files['all']], **more)
     prints(*all_given, [*words, *files['all'], '1,1', '1,2', '2,1', '2,2'], **more)
+
+
+def try_prove(words, folder):
+    """Makes a certificate, and checks it."""
+    picture, certificate = EXAMPLES / 'heart.ppm', folder / 'heart.cert'
+    run = clean([*words, 'prove', picture])
+    assert (run.status, run.said) == (0, b'')
+    certificate.write_bytes(run.wrote)
+    prints(0, 'certificate accepted', [*words, 'check', picture, certificate])
 
 
 def blocks_of(page):
@@ -194,29 +208,47 @@ UNPACK = {
     '.tar.gz': ['tar', 'xzf', '{}', '-C'],
     '.deb': ['dpkg-deb', '-x', '{}'],
     '.whl': [sys.executable, '-m', 'zipfile', '-e', '{}'],
+    '.zip': [sys.executable, '-m', 'zipfile', '-e', '{}'],
 }
+
+
+def unpacked(made, ending, folder):
+    """The packages whose names end so, each in a folder."""
+    needs(UNPACK[ending][0])
+    packages = sorted(made.glob(f'*{ending}'))
+    assert packages or ending == '.zip'  # which a compiler for Windows makes
+    for package in packages:
+        top = folder / package.name
+        top.mkdir()
+        passes([word.format(package) for word in UNPACK[ending]] + [top])
+        yield top.resolve()
 
 
 @pytest.mark.parametrize('ending', UNPACK)
 def test_links_lead_to_files_of_the_package(made, ending, tmp_path):
     """Those of its Markdown files, and of the page that a wheel's METADATA has."""
-    needs(UNPACK[ending][0])
-    packages = sorted(made.glob(f'*{ending}'))
-    assert packages
-    for package in packages:
-        top = tmp_path / package.name
-        top.mkdir()
-        passes([word.format(package) for word in UNPACK[ending]] + [top])
+    for top in unpacked(made, ending, tmp_path):
         pages = [*top.rglob('*.md'), *top.rglob('METADATA')]
         links = [
             (page, link)
             for page in pages
             for link in re.findall(r'\]\((?![a-z]+:)([^)\s]+)\)', page.read_text())
         ]
-        assert links
+        assert links or ending == '.zip'
         for page, link in links:
             file = (page.parent / link.split('#')[0]).resolve() if link[0] != '#' else page
-            assert file.is_file() and top.resolve() in file.parents, f'{page}: {link}'
+            assert file.is_file() and top in file.parents, f'{page}: {link}'
+
+
+@pytest.mark.since('0.8.0')
+@pytest.mark.parametrize('ending', UNPACK)
+def test_no_package_has_a_file_twice(made, ending, tmp_path):
+    for top in unpacked(made, ending, tmp_path):
+        known = {}
+        for file in sorted(top.rglob('*')):
+            if file.is_file() and not file.is_symlink() and file.stat().st_size:
+                other = known.setdefault(hashlib.sha256(file.read_bytes()).digest(), file)
+                assert other == file
 
 
 # ---- npm
@@ -314,6 +346,18 @@ def test_npm_worker_in_a_browser(npm, tmp_path):
         server.shutdown()
 
 
+@pytest.mark.since('0.8.0')
+def test_npm_as_it_would_be_published(made, tmp_path):
+    """npm leaves nothing out, and finds nothing wrong."""
+    needs('npm')
+    [top] = unpacked(made, '.tgz', tmp_path)
+    run = clean(['npm', 'pack', '--dry-run', '--json'], cwd=top / 'package')
+    assert (run.status, run.said) == (0, b'')
+    [package] = json.loads(run.wrote)
+    files = {file.relative_to(top / 'package').as_posix() for file in top.rglob('*.*')}
+    assert {file['path'] for file in package['files']} == files | {'NOTICES'}
+
+
 def test_npm_in_node(request, build, npm):
     env = {
         'PACKAGE': str(npm / 'node_modules' / 'nonobench'),
@@ -336,6 +380,19 @@ def test_page_begins_in_a_browser(made, tmp_path):
     """The text alone stands in the page's script too: the button is there once the script has
     run."""
     assert 'id="new-go">Start painting<' in dumped(f'file://{made}/nonobench.html', tmp_path, clean)
+
+
+@pytest.mark.since('0.8.0')
+def test_site_begins_in_a_browser(installed, tmp_path):
+    """With a server, as the archive for Linux has it; each icon has the size that is said of it."""
+    site = installed / 'site'
+    with served(site) as url:
+        assert 'id="new-go">Start painting<' in dumped(url, tmp_path, ended)
+    icons = json.loads((site / 'manifest.webmanifest').read_text())['icons']
+    assert {icon['src'] for icon in icons} == {'icon.svg', 'icon.png'}
+    [size] = [icon['sizes'] for icon in icons if icon['src'] == 'icon.png']
+    begin = (site / 'icon.png').read_bytes()[16:24]
+    assert size == 'x'.join(map(str, struct.unpack('>II', begin)))
 
 
 # ---- Linux
@@ -378,30 +435,75 @@ def test_archive_installed(made, pairs, version, tmp_path):
     assert [file for file in (tmp_path / 'to').rglob('*') if not file.is_dir()] == []
 
 
+@contextlib.contextmanager
+def by_dpkg(package, root):
+    """Installs one package of Debian in a root, without what it depends on, and removes it with all
+    that it left there."""
+    needs('dpkg')
+    for name in ('info', 'updates'):
+        (root / 'var' / 'lib' / 'dpkg' / name).mkdir(parents=True)
+    (root / 'var' / 'lib' / 'dpkg' / 'status').touch()
+    forced = 'not-root,script-chrootless,architecture,depends'
+    dpkg = ['dpkg', f'--root={root}', '--log=/dev/null', f'--force-{forced}']
+    env = {'PATH': f'{os.environ["PATH"]}:/usr/sbin:/sbin'}
+    passes([*dpkg, '--install', package], env=env)
+    yield root / 'usr'
+    passes([*dpkg, '--remove', package.name.split('_')[0]], env=env)
+    assert [file.name for file in root.iterdir()] == ['var']
+
+
+@pytest.mark.since('0.8.0')
 def test_deb(made, pairs, version, tmp_path):
-    needs('dpkg-deb')
     package = made / f'nonobench_{version}_amd64.deb'
-    passes(['dpkg-deb', '-x', package, tmp_path])
-    try_program([tmp_path / 'usr' / 'bin' / 'nonobench'], pairs, version)
+    with by_dpkg(package, tmp_path / 'root') as usr:
+        try_program([usr / 'bin' / 'nonobench'], pairs, version)
+        try_prove([usr / 'bin' / 'nonobench'], tmp_path)
+        try_scripts(usr)
+        run = clean(['python3', '-c', 'import nonobench'], PYTHONPATH=usr / 'lib' / 'nonobench')
+        assert run.status == 0, run
     if shutil.which('apt-get'):  # a simulation needs no lock, which another apt may hold
         passes(['apt-get', '-qq', '-s', '-o', 'Debug::NoLocking=1', 'install', package])
 
 
 @pytest.mark.since('0.8.0')
-def test_deb_scripts(made, tmp_path):
-    needs('dpkg-deb')
-    passes(['dpkg-deb', '-x', next(made.glob('*_amd64.deb')), tmp_path])
-    try_scripts(tmp_path / 'usr')
+def test_deb_of_arm64(made, tmp_path):
+    package = named(made, 'nonobench_*_arm64.deb')
+    needs('qemu-aarch64')
+    with by_dpkg(package, tmp_path / 'root') as usr:
+        try_prove(['qemu-aarch64', usr / 'bin' / 'nonobench'], tmp_path)
 
 
+@pytest.mark.since('0.8.0')
+@pytest.mark.compiler
+def test_deb_for_c(made, pairs, version, tmp_path):
+    """By the commands of its README, where the system looks into its folders."""
+    needs('cc', 'pkg-config')
+    with by_dpkg(made / f'libnonobench-dev_{version}_amd64.deb', tmp_path / 'root') as usr:
+        lib, include = usr / 'lib' / 'x86_64-linux-gnu', usr / 'include'
+        env = {
+            'PKG_CONFIG_LIBDIR': lib / 'pkgconfig',
+            'LIBRARY_PATH': lib,
+            'LD_LIBRARY_PATH': lib,
+            'C_INCLUDE_PATH': include,
+        }
+        [block] = blocks_of(usr / 'share' / 'doc' / 'libnonobench-dev' / 'README.md')
+        commands = block.strip('`').replace('/usr/share', f'{usr}/share')
+        prints(0, DIAGONAL, ['sh', '-e', '-c', commands], cwd=tmp_path, **env)
+        try_call([tmp_path / 'example'], pairs, DIAGONAL, (1, ALL_GIVEN), **env)
+        prints(
+            0, '-lnonocheck', ['pkg-config', '--cflags', '--libs', f'nonocheck = {version}'], **env
+        )
+
+
+@pytest.mark.since('0.8.0')
 @pytest.mark.parametrize('machine', ['amd64', 'arm64'])
-def test_deb_by_lintian(made, machine):
-    """What the missing licence makes is all that lintian may call an error."""
+def test_debs_by_lintian(made, machine):
     needs('lintian')
-    said = passes(['lintian', '--no-cfg', '--fail-on', 'none', named(made, f'*_{machine}.deb')])
-    assert [
-        line for line in said.splitlines() if line.startswith('E:') and 'copyright' not in line
-    ] == []
+    named(made, f'*_{machine}.deb')
+    said = passes(
+        ['lintian', '--no-cfg', '--fail-on', 'none', *made.glob(f'*_{machine}.deb')]
+    ).splitlines()
+    assert [line for line in said if line[:2] in ('E:', 'W:')] == []
 
 
 # ---- Python
@@ -409,33 +511,47 @@ def test_deb_by_lintian(made, machine):
 
 @pytest.fixture(scope='session')
 def environment(made, tmp_path_factory):
-    """An environment of Python in which the wheel is installed."""
+    """An environment of Python in which the wheel is installed, and from which it is removed."""
     folder = tmp_path_factory.mktemp('wheel') / 'env'
     if clean([sys.executable, '-m', 'venv', folder]).status:
         pytest.skip('this Python makes no environment')
-    run = clean(
-        [
-            folder / 'bin' / 'pip',
-            'install',
-            '--quiet',
-            '--no-index',
-            '--disable-pip-version-check',
-            next(made.glob('*_x86_64.whl')),
-        ]
-    )
+    pip = [folder / 'bin' / 'pip', '--quiet', '--disable-pip-version-check']
+    before = {file for file in folder.rglob('*') if not file.is_dir()}
+    run = clean([*pip, 'install', '--no-index', next(made.glob('*_x86_64.whl'))])
     assert run.status == 0, run
-    return folder
+    yield folder
+    assert clean([*pip, 'uninstall', '--yes', 'nonobench']).status == 0
+    after = {file for file in folder.rglob('*') if not file.is_dir()}
+    assert {file for file in after - before if '__pycache__' not in file.parts} == set()
 
 
 def test_wheel(made, environment, pairs, tmp_path):
     passes([sys.executable, '-m', 'zipfile', '-t', next(made.glob('*_x86_64.whl'))])
+    prints(0, 'No broken requirements found.', [environment / 'bin' / 'pip', 'check'])
     shutil.copy(TRIALS / 'ask.py', tmp_path)
     try_call([environment / 'bin' / 'python', 'ask.py'], pairs, cwd=tmp_path)
 
 
 @pytest.mark.since('0.8.0')
-def test_wheel_scripts(environment):
+def test_wheel_scripts(environment, pairs, version, tmp_path):
     try_scripts(environment)
+    try_program([environment / 'bin' / 'nonobench'], pairs, version)
+    try_prove([environment / 'bin' / 'nonobench'], tmp_path)
+
+
+@pytest.mark.since('0.8.0')
+@pytest.mark.compiler
+def test_wheel_with_musl(made, installed, pairs, tmp_path):
+    """Its library, which is that of the archive, in a program of musl."""
+    needs('musl-gcc')
+    wheel = next(made.glob('*.musllinux_1_1_x86_64.whl'))
+    passes([sys.executable, '-m', 'zipfile', '-e', wheel, tmp_path])
+    lib, program = installed / 'lib', tmp_path / 'program'
+    library = tmp_path / 'nonobench' / 'libnonobench.so'
+    assert library.read_bytes() == (lib / 'libnonobench.so').read_bytes()
+    words = [f'-I{installed}/include', f'-L{lib}', '-lnonobench', f'-Wl,-rpath,{lib}']
+    passes(['musl-gcc', '-std=c11', ROOT / 'c' / 'example.c', *words, '-o', program])
+    try_call([program], pairs, DIAGONAL, (1, ALL_GIVEN))
 
 
 def test_wheel_types(made, tmp_path):
