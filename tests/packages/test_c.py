@@ -7,7 +7,7 @@ import shutil
 import subprocess
 
 import pytest
-from tried import CASES, EXAMPLES, ROOT, ended, needs, needs_file, passes
+from tried import CASES, EXAMPLES, ROOT, calls_of, ended, needs, needs_file, passes
 
 COMPILE = ('cc', '-std=c11', '-Wall', '-Wextra', '-Werror', '-O1', '-g', f'-I{ROOT}/c')
 # The version of the release that is tried, where the header's is later.
@@ -209,12 +209,6 @@ def test_example(archive, tmp_path):
 
 
 # ---- names and versions
-
-
-def calls_of(header):
-    """The functions that a header declares."""
-    pattern = rf'^(?:\w+ )+\*?({header}_\w+)\('
-    return set(re.findall(pattern, (ROOT / 'c' / f'{header}.h').read_text(), re.MULTILINE))
 
 
 @pytest.mark.since('0.8.0')

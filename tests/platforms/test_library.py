@@ -1,13 +1,14 @@
 """The library for other systems, as platforms/build makes it of the module of the crate web. That
 for Linux on arm64 is run by qemu-aarch64, and that for Windows by wine."""
 
+import re
 import shutil
 import signal
 from pathlib import Path
 
 import pytest
 from systems import ON_EACH, Windows, linked
-from tried import CASES, EXAMPLES, ROOT, Ended, ended, needs_file, passes
+from tried import CASES, EXAMPLES, ROOT, Ended, calls_of, ended, needs_file, passes
 
 pytestmark = [pytest.mark.toolchain, pytest.mark.compiler, pytest.mark.emulator]
 HERE = Path(__file__).parent
@@ -79,6 +80,17 @@ def test_shared_library(system, tmp_path):
             status,
             wrote.rstrip(),
         ), (words, run)
+
+
+@ON_EACH
+@pytest.mark.parametrize('name', ['nonobench', 'nonocheck'])
+def test_what_is_given_out(system, name):
+    """The calls of the header, and nothing else, also by the static library."""
+    nm = f'{system.compiler.removesuffix("gcc")}nm'
+    shared = f'lib{name}.dll.a' if isinstance(system, Windows) else f'lib{name}.so'
+    for file, flag in ((f'lib{name}.a', '-g'), (shared, '-g' if shared.endswith('.a') else '-D')):
+        listed = passes([nm, flag, '--defined-only', system.made / file])
+        assert set(re.findall(r' T (\w+)', listed)) == calls_of(name), file
 
 
 @ON_EACH
