@@ -17,7 +17,8 @@
  *   - a desk's cell holds what nonobench_start put there until nonobench_end, and calls on one desk
  * come one after another;
  *   - what a call writes to does not overlap anything else that it is passed.
- * The functions at the end of this file are C (c/pair.c), and tested, not proved.
+ * The functions at the end of this file are C (c/pair.c), and so is what looks at an x86-64
+ * processor (c/start.c). They are tested, not proved.
  *
  * The library opens no file, prints nothing and keeps nothing outside its desks. So threads with a
  * desk each are independent. Do not call it in a child that was forked from a program with threads,

@@ -2,10 +2,11 @@
  * and has no search in it.
  *
  * Link with libnonocheck.a or libnonocheck.so (c/build). On x86-64 it needs a processor with SSE4.2
- * (x86-64-v2, 2009 and later), which a virtual machine may hide. Each call is proved, from the
- * bytes that it is passed to its status and text: docs/THEOREMS.md says what that means. An
- * accepted certificate proves that no other picture of that size has the clues and the colours in
- * its givens. Nothing checks that the caller meets its obligations:
+ * (x86-64-v2, 2009 and later), which a virtual machine may hide; what looks for it is C
+ * (c/check_start.c) and tested. Each call is proved, from the bytes that it is passed to its status
+ * and text: docs/THEOREMS.md says what that means. An accepted certificate proves that no other
+ * picture of that size has the clues and the colours in its givens. Nothing checks that the caller
+ * meets its obligations:
  *   - a pointer leads to as much as the length that goes with it says, and is not null, even with
  * the length 0;
  *   - what a call writes to does not overlap anything else that it is passed.
