@@ -202,6 +202,7 @@ def statuses(files):
     """The statuses as they stand, and as they stand again: pairs of a file and its numbers."""
     own = numbers(files[STATUS], r"pub const (\w+): u32 = (\d+);")
     own["REFUSED"] = int(re.search(r"\n +_ => (\d+),\n", files[FAULT])[1])
+    own["PROCESSOR"] = 7  # not of the crate, but of what stands in front of it: c/start.c
     line = re.search(r"^([A-Z, ]+) = ([\d, ]+)$", files[PYTHON], flags=re.M)
     again = [
         (HEADER, numbers(files[HEADER], r"NONOBENCH_([A-Z]+) = (\d+)\b")),
@@ -270,6 +271,7 @@ PLANTED = [
     (HEADER, "uint32_t handle, const uint8_t *lines", "int handle, const uint8_t *lines"),
     (HEADER, "uint32_t nonobench_close(", "size_t nonobench_close("),
     (HEADER, "NONOBENCH_CLOSED = 5", "NONOBENCH_CLOSED = 3"),
+    (CHECK_HEADER, "NONOCHECK_PROCESSOR = 7", "NONOCHECK_PROCESSOR = 5"),
     (
         GUARD,
         "nonobench_say(void *, unsigned, const byte *, u64);",

@@ -1,9 +1,10 @@
 /* Checks certificates of nonograms, and judges pictures, in a program of your own: over
  * libnonobench, which is proved.
  *
- * Link with libnonobench.a or libnonobench.so (c/build). There are two layers. The proved calls
- * work on a desk. The functions at the end of this file each make a desk, ask one question and end
- * the desk; they suit most programs.
+ * Link with libnonobench.a or libnonobench.so (c/build). On x86-64 it needs a processor with SSE4.2
+ * (x86-64-v2, 2009 and later), which a virtual machine may hide: elsewhere nothing is answered but
+ * PROCESSOR. There are two layers. The proved calls work on a desk. The functions at the end of
+ * this file each make a desk, ask one question and end the desk; they suit most programs.
  *
  * Each call of the library is proved, from the bytes that it is passed to its status and text:
  * docs/THEOREMS.md says what that means. An accepted certificate proves that no other picture of
@@ -16,7 +17,8 @@
  *   - a desk's cell holds what nonobench_start put there until nonobench_end, and calls on one desk
  * come one after another;
  *   - what a call writes to does not overlap anything else that it is passed.
- * The functions at the end of this file are C (c/pair.c), and tested, not proved.
+ * The functions at the end of this file are C (c/pair.c), and so is what looks at an x86-64
+ * processor (c/start.c). They are tested, not proved.
  *
  * The library opens no file, prints nothing and keeps nothing outside its desks. So threads with a
  * desk each are independent. Do not call it in a child that was forked from a program with threads,
@@ -41,8 +43,9 @@ extern "C" {
 #define NONOBENCH_MOST_BYTES ((size_t)16777216)
 
 /* How many bytes of stack a call needs at the most, whatever it is passed: measured, not proved.
- * Half of that is too little for some calls, and then the system ends the process. Threads have
- * more unless they ask for less. */
+ * Half of that is too little for some calls, and then the system ends the process. Threads of
+ * glibc, macOS and Windows have more by default. Those of musl (Alpine Linux) have 131072 bytes,
+ * which is too little: start one that calls with pthread_attr_setstacksize. */
 #define NONOBENCH_STACK ((size_t)196608)
 
 /* What a call answers. */
@@ -55,20 +58,23 @@ enum {
   NONOBENCH_CLOSED = 5, /* no bench has the handle */
   /* background, history, allowance or format is of another form; of the functions at the end of
      this file, also: a null comes with a length above 0 */
-  NONOBENCH_OPTIONS = 6
+  NONOBENCH_OPTIONS = 6,
+  NONOBENCH_PROCESSOR = 7 /* only on x86-64: the processor has no SSE4.2 */
 };
 
 /* ---- the calls of the library */
 
 /* Copies the library's version as far as there is room, as `nonobench --version` prints it after
- * the name, and answers how many bytes it has. No NUL is added. It needs no desk. */
+ * the name, and answers how many bytes it has: 0 where nonobench_start answers PROCESSOR. No NUL is
+ * added. It needs no desk. */
 size_t nonobench_version(uint8_t *out, size_t room);
 
 /* Benches (open pictures) under handles, and the text of the last call. Only nonobench_start makes
  * one. */
 typedef struct nonobench_desk nonobench_desk;
 
-/* Puts a new desk in the cell: DONE or MEMORY. The calls below take the address of this cell. */
+/* Puts a new desk in the cell: DONE, MEMORY or PROCESSOR. The calls below take the address of this
+ * cell. */
 uint32_t nonobench_start(nonobench_desk **desk);
 
 /* Ends a desk with all its benches. Does nothing for a null. */
@@ -257,10 +263,13 @@ uint32_t nonobench_verdict(
 /* A ruling, and a certificate if it is UNIQUE. */
 typedef struct nonobench_audited {
   nonobench_ruling ruling;
-  char *certificate; /* followed by a NUL, for free(), on Windows that of msvcrt.dll; null if there
-                        is none */
+  char *certificate;       /* followed by a NUL, for nonobench_free; null if there is none */
   size_t certificate_size; /* without the NUL */
 } nonobench_audited;
+
+/* Frees a certificate that a call below returned; does nothing for a null. Nothing else may free
+ * it: your program's free() may be that of another C library. */
+void nonobench_free(void *certificate);
 
 /* A certificate of a P3 picture, without givens. It has no bound, so it may take very long. If
  * another picture has the clues, the ruling is AMBIGUOUS and there is no certificate. The text is

@@ -1,10 +1,12 @@
 /* Checks certificates of nonograms in a program of your own: over libnonocheck, which is proved,
  * and has no search in it.
  *
- * Link with libnonocheck.a or libnonocheck.so (c/build). Each call is proved, from the bytes that
- * it is passed to its status and text: docs/THEOREMS.md says what that means. An accepted
- * certificate proves that no other picture of that size has the clues and the colours in its
- * givens. Nothing checks that the caller meets its obligations:
+ * Link with libnonocheck.a or libnonocheck.so (c/build). On x86-64 it needs a processor with SSE4.2
+ * (x86-64-v2, 2009 and later), which a virtual machine may hide; what looks for it is C
+ * (c/check_start.c) and tested. Each call is proved, from the bytes that it is passed to its status
+ * and text: docs/THEOREMS.md says what that means. An accepted certificate proves that no other
+ * picture of that size has the clues and the colours in its givens. Nothing checks that the caller
+ * meets its obligations:
  *   - a pointer leads to as much as the length that goes with it says, and is not null, even with
  * the length 0;
  *   - what a call writes to does not overlap anything else that it is passed.
@@ -33,17 +35,19 @@ extern "C" {
 
 /* What a call answers. */
 enum {
-  NONOCHECK_DONE = 0,    /* the certificate is accepted */
-  NONOCHECK_REFUSED = 1, /* picture, givens or certificate is refused; the text is what the program
-                            says after `nonobench: ` */
-  NONOCHECK_MEMORY = 4,  /* out of memory; there is no text */
-  NONOCHECK_OPTIONS = 6  /* the background has neither no samples nor three; there is no text */
+  NONOCHECK_DONE = 0,     /* the certificate is accepted */
+  NONOCHECK_REFUSED = 1,  /* picture, givens or certificate is refused; the text is what the program
+                             says after `nonobench: ` */
+  NONOCHECK_MEMORY = 4,   /* out of memory; there is no text */
+  NONOCHECK_OPTIONS = 6,  /* the background has neither no samples nor three; there is no text */
+  NONOCHECK_PROCESSOR = 7 /* only on x86-64: the processor has no SSE4.2; there is no text */
 };
 
 /* Each call puts as much of its text as there is room for at `out`, and zeros behind it: with
  * NONOCHECK_ROOM, a text with a NUL. */
 
-/* The version of the library, as `nonobench --version` prints it after the name. */
+/* The version of the library, as `nonobench --version` prints it after the name; no text where the
+ * other calls answer PROCESSOR. */
 void nonocheck_version(uint8_t *out, size_t room);
 
 /* Checks a certificate of a P3 picture, in any of its forms. `published` is the file of the givens

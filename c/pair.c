@@ -1,6 +1,7 @@
 /* One question each, over the calls of the proved library: c/build puts these functions into
  * libnonobench, and nonobench.h tells what they do. They are C and tested, not proved. */
 #include "nonobench.h"
+#include "processor.h"
 
 #include <inttypes.h>
 #include <stdio.h>
@@ -84,11 +85,12 @@ static uint32_t tell(nonobench_desk **desk, uint32_t status, nonobench_text *tex
   return status;
 }
 
-/* Starts a desk: DONE, or MEMORY with its text. */
+/* Starts a desk: DONE, or why there is none with its text. */
 static uint32_t start(nonobench_desk **desk, nonobench_text *text) {
-  if (nonobench_start(desk) == NONOBENCH_DONE) return NONOBENCH_DONE;
-  put(text, "memory");
-  return NONOBENCH_MEMORY;
+  uint32_t status = nonobench_start(desk);
+  if (status == NONOBENCH_MEMORY) put(text, "memory");
+  if (status == NONOBENCH_PROCESSOR) put(text, NO_PROCESSOR);
+  return status;
 }
 
 /* Opens a bench on a picture and a desk of its own. Where that is refused, the desk is ended and
@@ -370,6 +372,8 @@ static uint32_t keep(
   found->certificate_size = own.size;
   return status;
 }
+
+void nonobench_free(void *certificate) { free(certificate); }
 
 /* Asks a bench for a certificate. */
 static uint32_t certify(

@@ -282,7 +282,7 @@ static void test_certificates(void) {
       "it holds",
       said
   );
-  free(found.certificate);
+  nonobench_free(found.certificate);
   picture_of(rows, strlen(rows), picture);
   expect(
       nonobench_audit(picture, strlen(picture), NULL, -1, &found, &text) == NONOBENCH_DONE,
@@ -302,7 +302,7 @@ static void test_certificates(void) {
       "it holds",
       said
   );
-  free(found.certificate);
+  nonobench_free(found.certificate);
   expect(
       nonobench_audit(DIAGONAL, strlen(DIAGONAL), NULL, 5, &found, &text) == NONOBENCH_DONE,
       "another picture",
@@ -393,7 +393,7 @@ static void test_lemmas(void) {
       "cut",
       said
   );
-  free(found.certificate);
+  nonobench_free(found.certificate);
   expect(
       nonobench_prove_picture(DIAGONAL, strlen(DIAGONAL), NULL, false, 2, &found, &text) ==
           NONOBENCH_DONE,
@@ -439,7 +439,7 @@ static void test_lemmas(void) {
       "white again",
       said
   );
-  free(found.certificate);
+  nonobench_free(found.certificate);
 }
 
 /* A certificate is made with exactly the published cells, in the form that is asked for. The
@@ -473,7 +473,7 @@ static void test_given_proofs(void) {
         "it is accepted",
         found.certificate
     );
-    free(found.certificate);
+    nonobench_free(found.certificate);
   }
   expect(
       nonobench_prove_picture(DIAGONAL, size, &far, false, 2, &found, &text) == NONOBENCH_REFUSED &&
@@ -792,20 +792,20 @@ static void *call_each(void *given) {
     free(texts[i]);
   }
   *holds = *holds && nonobench_audit(picture, size, NULL, 20, &found, NULL) == NONOBENCH_DONE;
-  free(found.certificate);
+  nonobench_free(found.certificate);
   *holds = *holds && nonobench_certify(TILE, strlen(TILE), NULL, &found, NULL) == NONOBENCH_DONE &&
            found.certificate;
-  free(found.certificate);
+  nonobench_free(found.certificate);
   *holds =
       *holds &&
       nonobench_prove_picture(TILE, strlen(TILE), NULL, false, 2, &found, NULL) == NONOBENCH_DONE &&
       found.certificate;
-  free(found.certificate);
+  nonobench_free(found.certificate);
   *holds =
       *holds &&
       nonobench_prove_picture(OPEN, strlen(OPEN), NULL, false, 2, &found, NULL) == NONOBENCH_DONE &&
       found.certificate;
-  free(found.certificate);
+  nonobench_free(found.certificate);
   free(picture);
   return NULL;
 }
@@ -856,7 +856,7 @@ static void test_growth(int times) {
     holds = holds && nonobench_check_pair("P4", 2, "", 0, NULL, NULL) == NONOBENCH_REFUSED;
     holds = holds && nonobench_audit(TILE, strlen(TILE), NULL, 9, &found, NULL) == NONOBENCH_DONE &&
             found.certificate;
-    free(found.certificate);
+    nonobench_free(found.certificate);
     holds = holds &&
             nonobench_prove_picture(TILE, strlen(TILE), NULL, false, 2, &found, NULL) ==
                 NONOBENCH_DONE &&
@@ -864,7 +864,7 @@ static void test_growth(int times) {
     holds = holds && nonobench_check_pair(
                          TILE, strlen(TILE), found.certificate, found.certificate_size, NULL, NULL
                      ) == NONOBENCH_DONE;
-    free(found.certificate);
+    nonobench_free(found.certificate);
     holds = holds && nonobench_open(
                          &desk,
                          (const uint8_t *)DIAGONAL,

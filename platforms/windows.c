@@ -6,6 +6,8 @@
 #include <stdint.h>
 #include <wchar.h>
 
+#include "processor.h"
+
 // The program itself, as platforms/retarget.mjs names it.
 int nonobench_main(void);
 
@@ -179,9 +181,12 @@ int64_t system_lseek(int fd, int64_t by, int whence) {
                                                                           : failed();
 }
 
-// No box is shown where a drive is empty.
+// No box is shown where a drive is empty. The program needs a processor with SSE4.2, and says so.
 int wmain(int given, wchar_t **texts) {
+  static const char SAID[] = "nonobench: " NO_PROCESSOR "\n";
   count = given, words = texts;
   SetErrorMode(SEM_FAILCRITICALERRORS | SEM_NOOPENFILEERRORBOX);
-  return nonobench_main();
+  if (has_processor()) return nonobench_main();
+  system_write(2, SAID, sizeof SAID - 1);
+  return 3;
 }

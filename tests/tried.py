@@ -163,6 +163,13 @@ def once(path, make):
     return path
 
 
+def calls_of(library):
+    """The functions that the header of a library for C declares."""
+    pattern = rf'^(?:\w+ )+\*?({library}_\w+)\('
+    header = (ROOT / 'c' / f'{library}.h').read_text()
+    return set(re.findall(pattern, header, re.MULTILINE))
+
+
 def needs(*tools):
     """Skips a test where a tool is missing."""
     for tool in tools:

@@ -580,10 +580,18 @@ export async function load(module) {
   return new Engine(await instanceOf(module));
 }
 
+// A module with the type of a function that answers a vector: it is valid where there is SIMD.
+const SIMD = Uint8Array.of(0, 97, 115, 109, 1, 0, 0, 0, 1, 5, 1, 96, 0, 1, 123);
+
 // An instance of a module, of its bytes or compiled.
 async function instanceOf(module) {
-  const made = await WebAssembly.instantiate(module, {});
-  return made.instance ?? made;
+  try {
+    const made = await WebAssembly.instantiate(module, {});
+    return made.instance ?? made;
+  } catch (error) {
+    if (WebAssembly.validate(SIMD)) throw error;
+    throw new Error('this browser or Node.js has no WebAssembly SIMD, which nonobench needs');
+  }
 }
 
 // What web/check.mjs takes over.

@@ -1,11 +1,13 @@
-"""The library for C: its tests, also under valgrind, the example, and the header in C++."""
+"""The libraries for C: their tests, also under valgrind, the example, the headers in C++, and what
+programs that are linked with them ask for."""
 
 import os
 import re
+import shutil
 import subprocess
 
 import pytest
-from tried import CASES, EXAMPLES, ROOT, ended, needs, needs_file, passes
+from tried import CASES, EXAMPLES, ROOT, calls_of, ended, needs, needs_file, passes
 
 COMPILE = ('cc', '-std=c11', '-Wall', '-Wextra', '-Werror', '-O1', '-g', f'-I{ROOT}/c')
 # The version of the release that is tried, where the header's is later.
@@ -204,3 +206,61 @@ def test_example(archive, tmp_path):
             ).returncode
             == 3
         )
+
+
+# ---- names and versions
+
+
+@pytest.mark.since('0.8.0')
+@pytest.mark.compiler
+@pytest.mark.parametrize('name', ['nonobench', 'nonocheck'])
+def test_what_is_given_out(library, name):
+    """The calls of the header, and nothing else, also by the static library."""
+    needs('nm', 'readelf')
+    shared = needs_file(library.with_name(f'lib{name}.so'), 'c/build')
+    soname = re.search(r'soname: \[(.*)\]', passes(['readelf', '-d', shared]))[1]
+    assert soname == f'lib{name}.so.0'
+    version = re.search(r'_VERSION "(.*)"', (ROOT / 'c' / f'{name}.h').read_text())[1]
+    assert shared.resolve() == shared.with_name(soname).resolve()
+    assert shared.resolve().name == f'lib{name}.so.{version}'
+    calls = calls_of(name)
+    listed = passes(['nm', '-D', '--defined-only', '--format=posix', shared]).splitlines()
+    node = f'{name.upper()}_0'
+    given = {line.split()[0] for line in listed}
+    assert calls and given == {f'{call}@@{node}' for call in calls} | {f'{node}'}
+    static = passes(['nm', '-g', '--defined-only', '--format=posix', shared.with_suffix('.a')])
+    assert {line.split()[0] for line in static.splitlines()[1:]} == calls
+
+
+@pytest.mark.since('0.8.0')
+@pytest.mark.compiler
+def test_both_whole(archive, tmp_path):
+    """All of both static libraries goes into one program."""
+    needs('cc')
+    both = [archive, needs_file(archive.with_name('libnonocheck.a'), 'c/build')]
+    words = ['-Wl,--whole-archive', *both, '-Wl,--no-whole-archive', '-o', tmp_path / 'both']
+    passes([*COMPILE, ROOT / 'c' / 'example.c', *words])
+
+
+@pytest.mark.since('0.8.0')
+@pytest.mark.compiler
+def test_another_version(library, tmp_path):
+    """A program runs with a later library of the same name, and says what an earlier one lacks."""
+    needs('cc')
+    program, here = tmp_path / 'example', tmp_path / 'libnonobench.so.0'
+    passes([*COMPILE, ROOT / 'c' / 'example.c', library, '-o', program])
+    pair = [EXAMPLES / 'diagonal.ppm', EXAMPLES / 'diagonal.ppm.cert']
+
+    def run():
+        return ended([program, *pair], env={'LD_LIBRARY_PATH': tmp_path})
+
+    assert run().status == 127
+    shutil.copy(library, tmp_path / 'libnonobench.so.0.8.1')
+    here.symlink_to('libnonobench.so.0.8.1')
+    assert (run().status, run().wrote.decode().strip()) == DIAGONAL
+    here.unlink()
+    (tmp_path / 'earlier.c').write_text('void nonobench_earlier(void) {}')
+    (tmp_path / 'names').write_text('NONOBENCH_0 { global: nonobench_*; };')
+    flags = [f'-Wl,--version-script,{tmp_path}/names', '-Wl,-soname,libnonobench.so.0']
+    passes(['cc', '-shared', '-fPIC', *flags, tmp_path / 'earlier.c', '-o', here])
+    assert run().status == 127 and b'nonobench_assess_puzzle, version NONOBENCH_0' in run().said

@@ -421,6 +421,24 @@ def test_library_for_c(installed, pairs, version, tmp_path):
         try_call([tmp_path / name], pairs, DIAGONAL, (1, ALL_GIVEN))
 
 
+@pytest.mark.since('0.8.0')
+@pytest.mark.compiler
+def test_checker_for_c(installed, version, tmp_path):
+    """A program of one call is linked with it."""
+    needs('cc', 'pkg-config')
+    folder = {'PKG_CONFIG_PATH': installed / 'lib' / 'pkgconfig'}
+    run = clean(['pkg-config', '--cflags', '--libs', f'nonocheck = {version}'], **folder)
+    assert run.status == 0, run
+    (tmp_path / 'ask.c').write_text(
+        '#include <nonocheck.h>\n#include <stdio.h>\nint main(void) { uint8_t out[NONOCHECK_ROOM];'
+        ' nonocheck_version(out, sizeof out); return puts((char *)out) < 0; }\n'
+    )
+    flags = [*run.wrote.decode().split(), f'-Wl,-rpath,{installed}/lib']
+    built = clean(['cc', '-std=c11', 'ask.c', *flags, '-o', 'ask'], cwd=tmp_path)
+    assert built.status == 0, built
+    prints(0, version, [tmp_path / 'ask'])
+
+
 def test_archive_installed(made, pairs, version, tmp_path):
     """By its own script, and removed."""
     passes(['tar', 'xzf', next(made.glob('*-linux-x86_64.tar.gz')), '-C', tmp_path])

@@ -76,7 +76,7 @@ static void run_case(char *picture, char *said) {
   tell(said);
   status[5] = nonobench_check_pair(picture, size, certificate, strlen(certificate), &ANY, &text),
   tell(said);
-  free(certificate);
+  found.certificate ? nonobench_free(certificate) : free(certificate);
   for (int at = 0; at < 6; at++) putchar('0' + (int)status[at]);
   printf(" %d %016llx\n", (int)ruling, (unsigned long long)digest);
 }

@@ -60,7 +60,7 @@ static uint32_t call(int which, char *said) {
       break;
   }
   if (found.certificate && found.certificate_size < ROOM) strcpy(said, found.certificate);
-  free(found.certificate);
+  nonobench_free(found.certificate);
   return status;
 }
 

@@ -44,10 +44,10 @@ __attribute__((noinline)) static void make_calls(void) {
     holds = nonobench_check_pair(
                 PICTURE, sizeof PICTURE - 1, found.certificate, found.certificate_size, NULL, NULL
             ) == NONOBENCH_DONE;
-  if (holds) free(found.certificate);
+  if (holds) nonobench_free(found.certificate);
   holds =
       holds && nonobench_certify(PICTURE, sizeof PICTURE - 1, NULL, &found, NULL) == NONOBENCH_DONE;
-  if (holds) free(found.certificate);
+  if (holds) nonobench_free(found.certificate);
 }
 
 /* Uses up the stack down to what is to be left above its end, and calls. */

@@ -23,7 +23,7 @@ class Linux:
     name, compiler, shared_library, program = (
         'linux-aarch64',
         'aarch64-linux-gnu-gcc',
-        'libnonobench.so',
+        'libnonobench.so.0',
         'nonobench',
     )
     line_end = b'\n'

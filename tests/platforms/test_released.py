@@ -63,17 +63,14 @@ def test_deb(system, made, tmp_path):
 @ON_LINUX
 def test_wheel(system, made, tmp_path):
     """Its library is called from C."""
-    package = named(made, 'nonobench-*-py3-none-manylinux_2_17_aarch64.whl')
+    package = named(made, 'nonobench-*.musllinux_1_1_aarch64.whl')
     passes([sys.executable, '-m', 'zipfile', '-e', package, tmp_path])
     are_those(tmp_path, {'nonobench/libnonobench.so': 'libnonobench.so'}, system.made)
     [about] = tmp_path.glob('nonobench-*.dist-info/WHEEL')
     assert 'Tag: py3-none-manylinux_2_17_aarch64\n' in about.read_text()
-    program = linked(
-        system,
-        tmp_path / 'nonobench',
-        ROOT / 'c' / 'example.c',
-        tmp_path / 'nonobench' / 'libnonobench.so',
-    )
+    folder = tmp_path / 'nonobench'
+    library = shutil.copy(folder / 'libnonobench.so', folder / 'libnonobench.so.0')
+    program = linked(system, folder, ROOT / 'c' / 'example.c', library)
     assert (
         system.run(program, *(EXAMPLES / f'diagonal.{kind}' for kind in ('ppm', 'ppm.cert'))) == FIT
     )
@@ -118,5 +115,11 @@ def test_archive_for_windows(system, made, tmp_path):
     assert [(run.status, run.said) for run in runs] == [(0, b'')] * 5, runs
     first = [run.wrote.split(b'.')[0].replace(b'\r\n', b'\n').strip() for run in runs]
     fit = FIT.wrote.strip()
-    assert first == [YES.wrote.strip(), b'', b'Design multicolour nonograms with one solution', fit, fit]
+    assert first == [
+        YES.wrote.strip(),
+        b'',
+        b'Design multicolour nonograms with one solution',
+        fit,
+        fit,
+    ]
     assert (folder / 'heart.ppm.cert').read_bytes().startswith(b'nono')

@@ -15,7 +15,8 @@ if TYPE_CHECKING:
     from typing import Any, Callable
 
 DONE, REFUSED, MEMORY, CLOSED, OPTIONS = 0, 1, 4, 5, 6
-NAME = "libnonobench.so"
+# What the package and the checkout have, and what the system looks for.
+NAME, SYSTEM_NAME = "libnonobench.so", "libnonobench.so.0"
 
 # The folder of the package.
 FOLDER = os.path.dirname(os.path.abspath(__file__))
@@ -37,7 +38,7 @@ def _path() -> str:
         filter(
             os.path.isfile, (os.path.join(FOLDER, NAME), os.path.join(checkout, "c", "out", NAME))
         ),
-        NAME,
+        SYSTEM_NAME,
     )
 
 
@@ -81,17 +82,25 @@ def _kinds() -> dict[str, tuple[Any, list[Any]]]:
 PATH = _path()
 
 
+def _loaded() -> ctypes.CDLL:
+    """The library. Without the processor that it needs, its version has no bytes."""
+    try:
+        library = ctypes.CDLL(PATH)
+    except OSError as error:
+        raise ImportError(
+            f"cannot load {PATH}; build it with c/build, or set NONOBENCH_LIBRARY to its path:"
+            f" {error}"
+        ) from error
+    if library.nonobench_version(b"", ctypes.c_size_t(0)) == 0:
+        raise ImportError("this processor has no SSE4.2, which nonobench needs")
+    return library
+
+
 class _Calls:
     """The calls of the library, which the first of them loads."""
 
     def __getattr__(self, name: str) -> Any:
-        try:
-            call = getattr(ctypes.CDLL(PATH), name)
-        except OSError as error:
-            raise ImportError(
-                f"cannot load {PATH}; build it with c/build, or set NONOBENCH_LIBRARY to its path:"
-                f" {error}"
-            ) from error
+        call = getattr(_loaded(), name)
         call.restype, call.argtypes = _kinds()[name.removeprefix("nonobench_")]
         setattr(self, name, call)
         return call
