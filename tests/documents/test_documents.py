@@ -40,3 +40,14 @@ def test_tables_of_the_comparison():
     """They are those of the rows."""
     words = ['docs/comparison.csv', '--said', 'docs/COMPARISON.md']
     passes([sys.executable, ROOT / 'measure' / 'others_tables.py', *words])
+
+
+BROWSERS = r'Edge ([\d.]+), Firefox ([\d.]+), Safari ([\d.]+\d)'
+
+
+def test_least_browsers():
+    """Of the page in its three languages, and of the modules, as their own texts have them."""
+    page = re.findall(BROWSERS, (ROOT / 'page' / 'index.html').read_text())
+    modules = re.findall(BROWSERS, (ROOT / 'packages' / 'npm' / 'README.md').read_text())
+    shown = re.findall(BROWSERS, (ROOT / 'packages' / 'dist-README.txt').read_text())
+    assert len(page) == 3 and {*page} == {shown[0]} and modules == shown[1:]
