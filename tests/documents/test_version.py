@@ -80,7 +80,7 @@ def test_version_of_the_release():
     names = re.findall(r'nonobench[-_]([0-9][0-9.]*[0-9])', (ROOT / 'README.md').read_text())
     assert names and set(names) == {version}
     packages = [
-        re.match(r'nonobench[-_]([0-9][0-9.]*[0-9])', file.name)
+        re.search(r'nonobench(?:-dev)?[-_]([0-9][0-9.]*[0-9])', file.name)
         for file in (ROOT / 'dist').iterdir()
     ]
     assert {found[1] for found in packages if found} == {version}

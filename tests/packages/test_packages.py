@@ -149,7 +149,10 @@ def test_made_again_they_have_the_same_bytes(made, compiled, tmp_path):
 
 
 def test_sums(made):
+    """Of all files but the list itself."""
     passes(['sha256sum', '--quiet', '--strict', '-c', 'SHA256SUMS'], cwd=made)
+    listed = {line.split()[1] for line in (made / 'SHA256SUMS').read_text().splitlines()}
+    assert listed == {file.name for file in made.iterdir()} - {'SHA256SUMS'}
 
 
 def test_sources(made, build):
@@ -254,9 +257,10 @@ def test_no_package_has_a_file_twice(made, ending, tmp_path):
 # ---- npm
 
 
-def test_npm(npm, pairs, version):
+def test_npm(npm, pairs, version, tmp_path):
     words = [npm / 'node_modules' / '.bin' / 'nonobench']
     try_program(words, pairs, version)
+    try_prove(words, tmp_path)
     files, _ = pairs
     if shutil.which('npx'):
         prints(
@@ -447,6 +451,7 @@ def test_archive_installed(made, pairs, version, tmp_path):
     words = [unpacked / 'install', '--prefix', tmp_path / 'to']
     assert clean(words).status == 0
     try_program([tmp_path / 'to' / 'bin' / 'nonobench'], pairs, version)
+    try_prove([tmp_path / 'to' / 'bin' / 'nonobench'], tmp_path)
     run = clean([tmp_path / 'to' / 'bin' / 'nonobench-audit', '--version'])
     assert (run.status, run.wrote.decode()) == (0, f'nonobench-audit {version}\n')
     assert clean([*words, '--uninstall']).status == 0
