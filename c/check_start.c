@@ -1,6 +1,6 @@
-/* The calls of libnonocheck on x86-64, in front of the proved ones: they look whether the processor
- * can run these. They are C and tested, not proved; c/proved.names has the names of the proved
- * calls. */
+/* The calls of libnonocheck on x86-64, in front of the proved ones, which run only if the processor
+ * can run them. This is C and tested, not proved; c/proved.names has the names of the proved calls.
+ */
 #include "nonocheck.h"
 #include "processor.h"
 

@@ -3,14 +3,16 @@
 #ifndef PROCESSOR_H
 #define PROCESSOR_H
 
-#include <stdbool.h>
-
 #define NO_PROCESSOR "this processor has no SSE4.2, which nonobench needs"
 
 #ifdef __x86_64__
-/* The compiler's own library asks the processor once, before the program begins. */
+#include <cpuid.h>
+#include <stdbool.h>
+
 static inline bool has_processor(void) {
-  return __builtin_cpu_supports("sse4.2") && __builtin_cpu_supports("popcnt");
+  unsigned a, b, features, d;
+  __cpuid(1, a, b, features, d);
+  return (features & bit_SSE4_2) && (features & bit_POPCNT);
 }
 #endif
 

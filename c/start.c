@@ -1,6 +1,6 @@
-/* The calls of libnonobench on x86-64 that need no desk, in front of the proved ones: they look
- * whether the processor can run these. Each other call needs a desk, which only nonobench_start
- * makes. They are C and tested, not proved; c/proved.names has the names of the proved calls. */
+/* The calls of libnonobench on x86-64 that need no desk, in front of the proved ones, which run
+ * only if the processor can run them. Each other call needs a desk, which only nonobench_start
+ * makes. This is C and tested, not proved; c/proved.names has the names of the proved calls. */
 #include "nonobench.h"
 #include "processor.h"
 
@@ -17,5 +17,5 @@ uint32_t nonobench_start(nonobench_desk **desk) {
 }
 
 void nonobench_end(nonobench_desk *desk) {
-  if (has_processor()) proved_end(desk);
+  if (desk) proved_end(desk);
 }

@@ -91,14 +91,14 @@ class Windows:
         }
         self.launcher = None
 
-    def run(self, program, *words, text=b'', cwd=None):
+    def run(self, program, *words, text=b'', cwd=None, by=('wine',)):
         files = [self.folder / name for name in ('text', 'wrote', 'said')]
         files[0].write_bytes(text)
         with open(files[0], 'rb') as given, open(files[1], 'wb') as wrote, open(
             files[2], 'wb'
         ) as said:
             run = subprocess.run(
-                ['wine', *map(str, (program, *words))],
+                [*by, *map(str, (program, *words))],
                 cwd=cwd,
                 env=self.env,
                 stdin=given,

@@ -7,8 +7,8 @@ import signal
 from pathlib import Path
 
 import pytest
-from systems import ON_EACH, Windows, linked
-from tried import CASES, EXAMPLES, ROOT, Ended, calls_of, ended, needs_file, passes
+from systems import ON_EACH, ON_WINDOWS, Windows, linked
+from tried import CASES, EXAMPLES, ROOT, Ended, calls_of, ended, needs, needs_file, passes
 
 pytestmark = [pytest.mark.toolchain, pytest.mark.compiler, pytest.mark.emulator]
 HERE = Path(__file__).parent
@@ -20,6 +20,9 @@ STACKS = (512, 2048, 5000, 9000, 15000, 25000, 196608 + 32768)
 # Linux ends the process by a signal, and Windows by an exception; 8 is said where wine ends the
 # thread alone (stack.c).
 ENDED_BY_OVERFLOW = {-signal.SIGSEGV, 0xC00000FD & 0xFF, 0xC0000005 & 0xFF, 8}
+# What runs a program for Windows on a processor without SSE4.2: wine may start no further process.
+QEMU, WINE = 'qemu-x86_64', '/usr/lib/wine/wine64'
+WITHOUT = ('env', 'WINELOADERNOEXEC=1', QEMU, '-cpu', 'kvm64', WINE)
 # How many pictures are made by chance.
 COUNT = 10000
 
@@ -139,3 +142,16 @@ def test_upper_bits_of_a_bool(system, tmp_path):
     """A caller leaves them as they are."""
     run = system.run(with_archive(system, tmp_path, HERE / 'upper_bits.c'))
     assert run == Ended(0, b'', b'')
+
+
+@ON_WINDOWS
+def test_processor_without_sse42(system, tmp_path):
+    """As tests/packages/test_processor.py for Linux."""
+    needs(QEMU, WINE)
+    source = ROOT / 'tests' / 'packages' / 'processor.c'
+    libraries = [system.made / f'lib{name}.a' for name in ('nonobench', 'nonocheck')]
+    run = system.run(linked(system, tmp_path, source, '-static', *libraries), by=WITHOUT)
+    assert run.wrote == b'0 wrong\r\n', run
+    run = system.run(system.made / system.program, by=WITHOUT)
+    said = b'nonobench: this processor has no SSE4.2, which nonobench needs\n'
+    assert (run.status, run.wrote) == (3, b'') and run.said.endswith(said), run
