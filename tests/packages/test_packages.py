@@ -548,6 +548,7 @@ def environment(made, tmp_path_factory):
     assert {file for file in after - before if '__pycache__' not in file.parts} == set()
 
 
+@pytest.mark.since('0.8.0')
 def test_wheel(made, environment, pairs, tmp_path):
     passes([sys.executable, '-m', 'zipfile', '-t', next(made.glob('*_x86_64.whl'))])
     prints(0, 'No broken requirements found.', [environment / 'bin' / 'pip', 'check'])
@@ -577,6 +578,7 @@ def test_wheel_with_musl(made, installed, pairs, tmp_path):
     try_call([program], pairs, DIAGONAL, (1, ALL_GIVEN))
 
 
+@pytest.mark.since('0.8.0')
 def test_wheel_types(made, tmp_path):
     needs('mypy')
     passes([sys.executable, '-m', 'zipfile', '-e', next(made.glob('*_x86_64.whl')), tmp_path])
