@@ -418,7 +418,7 @@ def lay_scripts(package):
         tried.ROOT / 'web/nonobench.mjs',
     ]:
         if file.name != 'test.mjs':
-            shutil.copy(file, package)
+            shutil.copyfile(file, package / file.name)  # npm has made the program executable
     shutil.copy(tried.ROOT / 'web/nonobench.d.ts', package / 'nonobench.d.mts')
     about = json.loads((package / 'package.json').read_text())
     now = json.loads((tried.ROOT / 'packages/npm/package.json').read_text())
