@@ -21,11 +21,9 @@ function partsOf(board, other) {
   return groupsByLines(differing, (index) => board.linesOf(index));
 }
 
-/**
- * The cells to be given that are needed: line logic does not settle them by the others. Without the
- * rest it leaves the same cells open, and the solutions are the same.
- */
-export const needed = (board, given) => given.reduce((rest, index) => {
+// The cells to be given that are needed: line logic does not settle them by the others. Without the
+// rest it leaves the same cells open, and the solutions are the same.
+const needed = (board, given) => given.reduce((rest, index) => {
   const others = rest.filter((other) => other !== index);
   return openWith(board, others).includes(index) ? rest : others;
 }, [...given]);
