@@ -1,5 +1,7 @@
-// The calls of the system that the program's module names, for Linux on arm64: those of POSIX, and
-// its arguments. docs/TRUST.md lists them. The toolchain has its own for Linux on x86-64.
+// The calls of the system that the program's module names, for Linux on arm64, and for macOS as an
+// experiment: those of POSIX, and its arguments. docs/TRUST.md lists them. The toolchain has its
+// own for Linux on x86-64. Errors keep the system's numbers: of those that the toolchain knows, the
+// program tells only EINTR and ENOMEM from others, which are the same on both.
 #define _POSIX_C_SOURCE 200809L
 #include <errno.h>
 #include <fcntl.h>
@@ -37,8 +39,7 @@ void rattle_set_errno(int number) { errno = number; }
 
 // Files are opened to be read alone.
 int system_open(const char *path, int flags, ...) {
-  if ((flags & O_ACCMODE) == O_RDONLY && !(flags & O_CREAT))
-    return open(path, O_RDONLY | O_NOCTTY | O_CLOEXEC);
+  if ((flags & O_ACCMODE) == O_RDONLY) return open(path, O_RDONLY | O_NOCTTY | O_CLOEXEC);
   errno = EACCES;
   return -1;
 }

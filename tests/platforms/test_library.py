@@ -1,11 +1,8 @@
 """The library for other systems, as platforms/build makes it of the module of the crate web. That
-for Linux on arm64 is run by qemu-aarch64, and that for Windows by wine; those for macOS are only
-looked at."""
+for Linux on arm64 is run by qemu-aarch64, and that for Windows by wine."""
 
-import re
 import shutil
 import signal
-import struct
 from pathlib import Path
 
 import pytest
@@ -130,46 +127,3 @@ def test_upper_bits_of_a_bool(system, tmp_path):
     """A caller leaves them as they are."""
     run = system.run(with_archive(system, tmp_path, HERE / 'upper_bits.c'))
     assert run == Ended(0, b'', b'')
-
-
-def symbols(archive):
-    """The names that the objects of an archive for macOS define and want."""
-    defined, wanted = set(), set()
-    for begin in (found.start() for found in re.finditer(rb'\xcf\xfa\xed\xfe', archive)):
-        at = begin + 32
-        for _ in range(struct.unpack_from('<I', archive, begin + 16)[0]):
-            command, size = struct.unpack_from('<II', archive, at)
-            if command == 2:
-                table, count, texts, _ = struct.unpack_from('<IIII', archive, at + 8)
-                for one in range(count):
-                    name, kind, _, _, value = struct.unpack_from(
-                        '<IBBHQ', archive, begin + table + 16 * one
-                    )
-                    text = (
-                        archive[begin + texts + name :].split(b'\0', 1)[0].decode()
-                        if kind & 1
-                        else ''
-                    )
-                    (defined if kind & 0xE else wanted).add(text)
-            at += size
-    return defined - {''}, wanted - {''}
-
-
-# What the C library of macOS has.
-FROM_C = set(
-    'malloc realloc free memcpy memmove memset memcmp bcmp bzero __bzero memset_pattern16 strlen'
-    ' strcmp strncmp strchr strspn sprintf snprintf sscanf __stack_chk_fail'
-    ' __stack_chk_guard'.split()
-)
-
-
-@pytest.mark.parametrize('library', ['nonobench', 'nonocheck'])
-@pytest.mark.parametrize('name', ['macos-arm64', 'macos-x86_64'])
-def test_symbols_for_macos(others, name, library):
-    """The functions of the header, and nothing is wanted but of the C library."""
-    header = (ROOT / 'c' / f'{library}.h').read_text()
-    functions = set(re.findall(rf'^(?:\w+ )+\*?({library}_\w+)\(', header, re.MULTILINE))
-    defined, wanted = symbols((others / name / f'lib{library}.a').read_bytes())
-    assert functions
-    assert {f'_{function}' for function in functions} <= defined
-    assert wanted - defined <= {f'_{function}' for function in FROM_C}

@@ -11,7 +11,6 @@ TRIPLE = 'target triple = "x86_64-unknown-linux-gnu"'
 LAYOUTS = {
     'linux': 'target datalayout = "L"\ntarget triple = "aarch64-unknown-linux-gnu"\n',
     'windows': 'target datalayout = "W"\ntarget triple = "x86_64-w64-windows-gnu"\n',
-    'macos': 'target datalayout = "M"\ntarget triple = "arm64-apple-macosx12.0.0"\n',
 }
 HEAD = 'define noundef i32 @nonobench_f(ptr noundef %a, i1 noundef zeroext %b) #0 {'
 OWN = 'define internal noundef i32 @own(i1 noundef zeroext %b) #0 {'
@@ -57,7 +56,6 @@ def retargeted(folder, system, text):
 BECOMES = {
     'linux': f'nounwind {FRAME} {PROBES}',
     'windows': f'nounwind uwtable {FRAME}',
-    'macos': f'nounwind {FRAME} {PROBES}',
 }
 
 
