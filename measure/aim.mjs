@@ -2,8 +2,9 @@
 // given, and after which time. Times are of the processor, all threads of node together, so that
 // other work beside it does not count. Usage: node measure/aim.mjs NONOBENCH.WASM FOLDER [--most N]
 // [--seconds S] FOLDER has P3 pictures, as measure/icons.py makes them; the first N (200) count
-// that line logic solves. Each proposal is painted into a picture of its own and judged and graded
-// anew. The status is 1 where less than half reach a grade beside theirs, or one is wrong.
+// that line logic solves. The seconds (4) are of work, as the page counts it. Each proposal is
+// painted into a picture of its own and judged and graded anew. The status is 1 where less than
+// half reach a grade beside theirs, or one is wrong.
 import {readFileSync, readdirSync} from 'node:fs';
 import {join} from 'node:path';
 import {parseArgs} from 'node:util';
@@ -57,7 +58,6 @@ for (const name of readdirSync(folder).filter((one) => one.endsWith('.ppm')).sor
             board,
             word,
             seconds: Number(values.seconds),
-            now,
             say,
             path: () => fallsOf(say, board),
             grade: grading(engine, board)

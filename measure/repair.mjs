@@ -1,7 +1,8 @@
-// How few cells repairs take, in how many questions and milliseconds, over a folder of pictures, by
-// how many cells are open. Times are of the processor, all threads of node together, so that other
-// work beside it does not count. Usage: node measure/repair.mjs NONOBENCH.WASM FOLDER [--every N]
-// [--seconds S] [--questions N] [--free] FOLDER has P3 pictures, as measure/icons.py makes them.
+// How few cells repairs take, and how many milliseconds, over a folder of pictures, by how many
+// cells are open. Times are of the processor, all threads of node together, so that other work
+// beside it does not count. Usage: node measure/repair.mjs NONOBENCH.WASM FOLDER [--every N]
+// [--seconds S] [--free] FOLDER has P3 pictures, as measure/icons.py makes them. The seconds (10)
+// are of work, as the page counts it.
 // --free drops the damage rule. Each best repair is painted into a picture of its own and judged
 // anew, without a bound. The last lines say which goals are met; the status is 1 where one is
 // missed.
@@ -18,15 +19,10 @@ const {positionals: [wasm, folder], values} = parseArgs({
   options: {
     every: {type: 'string', default: '1'},
     seconds: {type: 'string', default: '10'},
-    questions: {type: 'string', default: '2000'},
     free: {type: 'boolean', default: false}
   },
 });
-const bounds = {
-  now,
-  seconds: Number(values.seconds),
-  questions: Number(values.questions)
-};
+const seconds = Number(values.seconds);
 const engine = await load(readFileSync(wasm));
 
 // What a session says of a file: its colours and rows of letters, how many cells are open, the
@@ -75,7 +71,7 @@ async function tried(name, goal) {
   const say = (lines) => bench.say(`${lines.join('\n')}\n`);
   const from = now();
   const found = [];
-  const result = await repair({board, goal, say, ...bounds}, {
+  const result = await repair({board, goal, say, seconds}, {
     found: (one) => found.push({cells: one.cells, milliseconds: now() - from}),
   });
   bench.close();
@@ -88,7 +84,6 @@ async function tried(name, goal) {
     size: best?.cells.length ?? Infinity,
     first: found[0]?.milliseconds ?? null,
     best: best?.milliseconds ?? null,
-    questions: result.questions,
     proved: result.proved,
     isWrong: false
   };

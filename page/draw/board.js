@@ -94,7 +94,7 @@ export const drawGiven = (surface, x, y, side) => surface.polygon(
 // ---- clues
 
 const signOf = (look, letter) => (look.signs ? look.signs[LETTERS.indexOf(letter)] : '');
-export const blockText = (look, block) => `${block.length}${signOf(look, block.letter)}`;
+const blockText = (look, block) => `${block.length}${signOf(look, block.letter)}`;
 const widthOf = (text, digit = DIGIT) => [...text].reduce(
     (sum, sign) => sum + (sign > 'z' || sign === 'm' ? SIGN : digit), 0
 );  // by its size
@@ -156,8 +156,8 @@ export function drawBlock(surface, look, block, {x, y, width, height}) {
     });
 }
 
-/** The clue of a line without a block. */
-export function drawNone(surface, look, x, y, isCrossed = false) {
+// The clue of a line without a block.
+function drawNone(surface, look, x, y, isCrossed = false) {
   if (look.font < look.least) return;
   surface.text('0', x, y, {size: look.font, ink: look.faint, family: look.family});
   const arm = look.font / 2;

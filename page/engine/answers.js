@@ -229,7 +229,7 @@ function readCertificate(reader) {
   return {kind: 'text', text: reader.since(from)};
 }
 
-export function readPpm(reader) {
+function readPpm(reader) {
   const from = reader.at;
   reader.word('P3');
   const [columns, rows] = numbers(reader.match(pattern('N N'), 'width and height'), 1);

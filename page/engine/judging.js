@@ -71,10 +71,11 @@ const ranksOf =
 const isBetter = (one, other) =>
     !other || ranksOf(one).map((rank, at) => rank - ranksOf(other)[at]).find(Boolean) < 0;
 
-/** Repairs documents, each search within some seconds. */
+const MEND = 3;  // seconds of work for a search of repairs
+
+/** Repairs documents. */
 export class Mender {
-  constructor({seconds, start = startEngine}) {
-    this.seconds = seconds;
+  constructor({start = startEngine} = {}) {
     this.engine = start();
   }
 
@@ -88,7 +89,7 @@ export class Mender {
       /** @type {any} */
       let best = null;
       await this.engine
-          .call('repair', {board: boardFields(state), goal, seconds: this.seconds}, ({found}) => {
+          .call('repair', {board: boardFields(state), goal, seconds: MEND}, ({found}) => {
             if (found && isBetter(found, best)) best = found;
           });
       if (best)

@@ -34,7 +34,6 @@ import {authorFor, keepAuthor} from './publishing.js';
 import {MOST_SHEETS} from './sheets.js';
 
 const JUDGE_SECONDS = 5;  // for a picture
-const MEND_SECONDS = 3;   // for a search of repairs
 const REST = 200;         // milliseconds without a change until the preview is drawn
 
 class Book {
@@ -227,7 +226,7 @@ class Book {
   // Repairs what is ambiguous, one picture after the other.
   async repairAll() {
     const pages = this.pages.filter((page) => page.isAmbiguous);
-    const mender = new Mender({seconds: MEND_SECONDS});
+    const mender = new Mender();
     const text = (at) => phrase('import.repairsTried', {at, count: pages.length});
     await this.doing(pages, text, (page, judge, own) => {
       own.end = () => {

@@ -77,11 +77,8 @@ function isBetween(groups, one, at, other) {
   return far(one, at) + far(at, other) <= DETOUR * far(one, other);
 }
 
-/**
- * The groups of an image: `{triple, place, area, edges}` in pixels, those first that have the
- * most.
- */
-export function groupsOf(image) {
+// The groups of an image: `{triple, place, area, edges}` in pixels, those first that have the most.
+function groupsOf(image) {
   return once(image, 'groups', () => {
     const {groups, of} = gathered(image);
     const numbers = groupNumbers(image, of);

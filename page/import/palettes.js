@@ -128,8 +128,8 @@ export async function takePalette(text, name) {
   return done ? heard(bench.become(done)) : false;
 }
 
-/** The palette of a document. */
-export function paletteOf(doc, name) {
+// The palette of a document.
+function paletteOf(doc, name) {
   const {colours} = eightBitDoc(doc);
   return {name, colours: colours.map((triple, at) => ({triple, name: inkName(doc, LETTERS[at])}))};
 }

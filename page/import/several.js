@@ -20,7 +20,6 @@ import {hasCertificate, puzzlesIn} from './beside.js';
 import {HEADS, Row} from './rows.js';
 
 const MOST_SECONDS = 30;  // for a picture
-const MEND_SECONDS = 3;   // for a search of repairs
 
 const valuesText = (rows) => [HEADS, ...rows.map((row) => row.texts)]
                                  .map((texts) => texts.map(valueText).join(','))
@@ -145,7 +144,7 @@ class Table {
   async turnRepair() {
     if (this.mender) return this.mender.end();
     const wanted = this.puzzles.filter((row) => row.isAmbiguous);
-    this.mender = new Mender({seconds: MEND_SECONDS});
+    this.mender = new Mender();
     this.repair.textContent = phrase('view.stop');
     let done = 0;
     try {

@@ -38,8 +38,8 @@ function endTracing() {
   tracing.panel = null;
 }
 
-/** Lays an image under the picture. */
-export function trace(image) {
+// Lays an image under the picture.
+function trace(image) {
   endTracing();
   sheet.underlay = new Underlay(sheet, penWith(image).canvas);
   tracing.fits = sheet.underlay.wide;

@@ -53,11 +53,19 @@ const thumb = (share) => buttonOf(
     {'data-share': share, 'aria-label': phrase('play.afterShare', {share}), disabled: true}
 );
 
+// The fold, which is filled when it is opened.
 function makeCourse() {
   const fold = make(
       'details',
       {id: 'course', ontoggle: () => schedule(SOON)},
-      make('summary', {}, phrase('play.path')),
+      make('summary', {}, phrase('play.path'))
+  );
+  fold.addEventListener('toggle', () => fillCourse(fold), {once: true});
+  $('details-do').after(fold);
+}
+
+function fillCourse(fold) {
+  fold.append(
       make('div', {id: 'film'}, ...SHARES.map(thumb)),
       make('div', {id: 'film-now'}, make('canvas', {class: 'small', 'aria-hidden': 'true'})),
       make('input', {
@@ -83,10 +91,9 @@ function makeCourse() {
       }),
       make('p', {id: 'cliff-said', role: 'status'})
   );
-  fold.querySelector('#curve').addEventListener('click', pressCurve);
-  for (const button of fold.querySelectorAll('[data-share]'))
+  $('curve').addEventListener('click', pressCurve);
+  for (const button of $('film').children)
     button.prepend(make('canvas', {class: 'small', 'aria-hidden': 'true'}));
-  $('details-do').after(fold);
 }
 
 // The picture as a solver has it after so many steps, on a canvas.

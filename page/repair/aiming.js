@@ -11,7 +11,7 @@ const MOST_CELLS = 4;    // that are repainted
 const WIDTH = 10;        // candidates gone on from at each step
 const MOVES = 60;        // moves tried behind each of them: those that came nearest by themselves
 const ENOUGH = 24;       // repaints of more cells found
-const FOR_GIVEN = 0.25;  // of the time
+const FOR_GIVEN = 0.25;  // of the work
 
 // The bounds of docs/SESSION.md. They rank candidates alone: the engine says which word each has.
 const BOUNDS = {
@@ -54,19 +54,19 @@ export const wordGoal = (word, grade) => ({
 export class Aiming {
   board;
   goal;
-  asker;
   limit;
   found;
 
-  constructor({board, goal, asker, limit, found}) {
-    Object.assign(this, {board, goal, limit, found, asker});
+  constructor({board, goal, limit, found}) {
+    Object.assign(this, {board, goal, limit, found});
     this.candidate = new Candidate(board);
     this.seen = new Set();
     this.count = 0;  // repaints found
   }
 
   async figuresOf(cells, givens) {
-    this.limit.check(this.asker.questions);
+    this.board.work.question(cells);
+    this.limit.step();
     return this.goal.ask(cells, givens);
   }
 
@@ -81,7 +81,7 @@ export class Aiming {
         (index) => !falls.has(index) && !board.givens.includes(index)
     );
     for (const index of open) {
-      if (!this.limit.share(FOR_GIVEN)) return;
+      if (!this.limit.isWithin(FOR_GIVEN)) return;
       if (goal.isMet(await this.figuresOf(board.cells, [...board.givens, index])))
         return void this.found({given: [index]});
     }
@@ -117,7 +117,7 @@ export class Aiming {
   async repaint(beginnings) {
     const moves = [...this.board.moves].sort(
         (one, other) => one.pain - other.pain
-    );  // what is seen least first, since time may end
+    );  // what is seen least first, since the work may end
     let front = [];
     for (const begun of beginnings) front.push(await this.tried(begun));
     const singles = [];

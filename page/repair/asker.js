@@ -17,7 +17,6 @@ export class Asker {
   constructor(board, say) {
     this.board = board;
     this.say = say;
-    this.questions = 0;
     this.shown = board.cells.slice();
     this.pinned = new Set();
   }
@@ -44,7 +43,7 @@ export class Asker {
    */
   async ask(cells, pins = new Set()) {
     const lines = this.#changes(cells, pins);
-    this.questions++;
+    this.board.work.question(cells);
     const text = await this.say([...lines, `allow ${ALLOWANCE}`, 'map', 'verdict']);
     this.shown.set(cells);
     this.pinned = new Set(pins);

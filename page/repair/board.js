@@ -2,6 +2,7 @@
 // candidate of it that is changed in place.
 
 import {clueOf} from './lines.js';
+import {Work} from './work.js';
 
 const HALF = 2 ** 26;  // two halves of a key, each below this, make a number that is exact
 
@@ -67,6 +68,7 @@ export class Board {
     this.cells = cells;
     this.rule = rule;
     this.mirror = mirror;
+    this.work = new Work();
     this.lines = rows + columns;
     this.givens = [...givens];
     this.isLocked = new Uint8Array(cells.length);

@@ -132,7 +132,7 @@ function further(search, {moves, openCells}, seen, draw) {
   const found = [];
   for (const move of near) {
     if (draw() > share || moves.some((one) => overlap(one, move))) continue;
-    search.check();
+    search.limit.step();
     candidate.become([...moves, move]);
     if (seen.has(candidate.key) || !candidate.isNeatAfter(move)) continue;
     seen.add(candidate.key);

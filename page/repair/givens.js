@@ -21,11 +21,9 @@ function partsOf(board, other) {
   return groupsByLines(differing, (index) => board.linesOf(index));
 }
 
-/**
- * The cells to be given that are needed: line logic does not settle them by the others. Without the
- * rest it leaves the same cells open, and the solutions are the same.
- */
-export const needed = (board, given) => given.reduce((rest, index) => {
+// The cells to be given that are needed: line logic does not settle them by the others. Without the
+// rest it leaves the same cells open, and the solutions are the same.
+const needed = (board, given) => given.reduce((rest, index) => {
   const others = rest.filter((other) => other !== index);
   return openWith(board, others).includes(index) ? rest : others;
 }, [...given]);
@@ -43,8 +41,8 @@ function weights(sets, given) {
 }
 
 // At most so many cells more that meet all sets, or null.
-function meeting(sets, given, left, check) {
-  check();
+function meeting(sets, given, left, limit) {
+  limit.step();
   const open = sets.filter((set) => !isMet(set, given));
   if (open.length === 0) return new Set(given);
   const used = new Set();
@@ -59,7 +57,7 @@ function meeting(sets, given, left, check) {
   const least = open.reduce((best, set) => (set.length < best.length ? set : best));
   for (const index of [...least].sort((one, other) => count.get(other) - count.get(one))) {
     given.add(index);
-    const found = meeting(sets, given, left - 1, check);
+    const found = meeting(sets, given, left - 1, limit);
     given.delete(index);
     if (found) return found;
   }
@@ -84,13 +82,13 @@ export class Giving {
     this.asker = asker;
     this.hooks = hooks;
     this.sets = [];
-    this.check = () => limit.check(asker.questions);
+    this.limit = limit;
   }
 
   // The verdict's word where these cells are given. Each part in which a second picture differs is
   // added to `sets`.
   async #word(given) {
-    this.check();
+    this.limit.step();
     const {word, other} = await this.asker.ask(this.board.cells, given);
     if (other) this.sets.push(...partsOf(this.board, other));
     return word;
@@ -110,7 +108,7 @@ export class Giving {
    */
   async fewest(bound) {
     for (let most = 0; most < bound;) {
-      const given = meeting(this.sets, new Set(), most, this.check);
+      const given = meeting(this.sets, new Set(), most, this.limit);
       if (given === null) {
         most++;
         continue;
@@ -131,7 +129,7 @@ export class Giving {
       if (word === 'unique') return given;
       given.add(
           word === 'ambiguous' ? heaviest(this.sets, given) :
-                                 settling(this.board, given, this.check)
+                                 settling(this.board, given, this.limit)
       );
     }
   }
@@ -148,12 +146,12 @@ export class Giving {
 }
 
 // Of some open cells, all along the puzzle, the one that settles most.
-function settling(board, given, check) {
+function settling(board, given, limit) {
   const open = openWith(board, [...given]);
   const step = Math.ceil(open.length / MOST_TRIED);
   let best = null;
   for (let at = 0; at < open.length; at += step) {
-    check();
+    limit.step();
     const left = openWith(board, [...given, open[at]]).length;
     if (!best || left < best.left) best = {index: open[at], left};
   }
@@ -162,13 +160,13 @@ function settling(board, given, check) {
 
 // Cells to be given until line logic solves the puzzle, fewer than `bound`: that which settles
 // most, again and again. Or null.
-function settlers(board, bound, check) {
+function settlers(board, bound, limit) {
   const chosen = [];
   for (let open = openWith(board, []); open.length > 0;) {
     if (chosen.length + 1 >= bound) return null;
     let best = null;
     for (const index of open) {
-      check();
+      limit.step();
       const rest = openWith(board, [...chosen, index]);
       if (!best || rest.length < best.rest.length) best = {index, rest};
     }
@@ -183,7 +181,7 @@ function settlers(board, bound, check) {
  * null.
  */
 export async function fewForLines(board, asker, limit, bound) {
-  const chosen = settlers(board, bound, () => limit.check(asker.questions));
+  const chosen = settlers(board, bound, limit);
   return chosen && (await asker.isSolved(board.cells, new Set(chosen))) ? chosen : null;
 }
 
@@ -192,13 +190,12 @@ export async function fewForLines(board, asker, limit, bound) {
  * again; then by trying all few.
  */
 export async function givensForLines(board, asker, limit, hooks) {
-  const check = () => limit.check(asker.questions);
-  const chosen = settlers(board, Infinity, check);
+  const chosen = settlers(board, Infinity, limit);
   if (!(await asker.isSolved(board.cells, new Set(chosen)))) return;
   hooks.found({given: chosen, isLeast: chosen.length < 2});
   const open = openWith(board, []);
   for (let count = 1; count < chosen.length && count <= FEW; count++) {
-    const given = anyOf(board, open, count, check);
+    const given = anyOf(board, open, count, limit);
     if (given && (await asker.isSolved(board.cells, new Set(given))))
       return void hooks.found({given, isLeast: true});
   }
@@ -206,11 +203,11 @@ export async function givensForLines(board, asker, limit, hooks) {
 }
 
 // So many of the open cells that suffice, or null.
-function anyOf(board, open, count, check, given = []) {
-  check();
+function anyOf(board, open, count, limit, given = []) {
+  limit.step();
   if (count === 0) return openWith(board, given).length === 0 ? given : null;
   for (let at = 0; at < open.length; at++) {
-    const found = anyOf(board, open.slice(at + 1), count - 1, check, [...given, open[at]]);
+    const found = anyOf(board, open.slice(at + 1), count - 1, limit, [...given, open[at]]);
     if (found) return found;
   }
   return null;

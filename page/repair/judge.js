@@ -3,9 +3,6 @@
 import {Narrowing} from './narrowing.js';
 import {witnessesOf} from './witness.js';
 
-/** Time or questions ran out. */
-export class SpentError extends Error {}
-
 /** What is known of a candidate: whether it meets the goal, and if not, how far it is from it. */
 const findingOf = (facts) => ({
   isGoal: false,

@@ -10,9 +10,10 @@ const isSettled = (mask) => (mask & (mask - 1)) === 0;
 
 // What a clue alone leaves of its line's cells. It is kept with the clue, which most candidates
 // share.
-function aloneOf(clue, size, all) {
+function aloneOf(clue, size, {all, work}) {
   if (!clue.alone) {
     clue.alone = new Uint16Array(size);
+    work.line(size, clue);
     narrow(line.fill(all, 0, size), size, clue, clue.alone);
   }
   return clue.alone;
@@ -49,7 +50,7 @@ export class Narrowing {
   settle() {
     if (this.isNew)
       for (let one = 0; one < this.isDue.length; one++)
-        this.#restrict(one, aloneOf(this.clues[one], this.board.sizeOf(one), this.board.all));
+        this.#restrict(one, aloneOf(this.clues[one], this.board.sizeOf(one), this.board));
     this.isNew = false;
     for (let looks = 1; looks > 0;) {
       looks = 0;
@@ -77,6 +78,7 @@ export class Narrowing {
     const size = board.sizeOf(one);
     for (let at = 0; at < size; at++) line[at] = masks[first + at * step];
     this.isDue[one] = 0;
+    board.work.line(size, this.clues[one]);
     narrow(line, size, this.clues[one], out);
     this.#restrict(one, out);
   }

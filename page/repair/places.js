@@ -7,7 +7,7 @@ const MOST_TRIED = 60;  // cells that are given, one after the other, to find wh
 
 /**
  * The groups of a board's open cells, each by rising index; all in one where there are many, or
- * `goesOn` says that time is up.
+ * `goesOn` says that enough was done.
  */
 export function placesOf(board, goesOn = () => true) {
   const settled = new Narrowing(board).settle();

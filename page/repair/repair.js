@@ -2,101 +2,79 @@
 // unique, or solved by line logic.
 //
 //     await repair({ board, goal: 'unique', say, seconds: 10 }, { found: (proposal) => ..., nearer:
-//     (near) => ..., told: (text) => ... })
+//     (near) => ..., placed: (places) => ... })
 //
 // `say` puts lines to a proved session that shows the board's picture, and gives its text or a
-// promise of it. Every proposal was judged by the session. `give` looks for cells to give, `mix`
-// for some of both, `aim` for a grade, and `delay` for what is known later.
+// promise of it. Every proposal was judged by the session. `seconds` are of work, as work.js counts
+// it. `give` looks for cells to give, `mix` for some of both, `aim` for a grade, and `delay` for
+// what is known later.
 
 import {chances} from '../base/chance.js';
 import {Aiming, wordGoal} from './aiming.js';
 import {Asker} from './asker.js';
 import {climb, dive} from './descents.js';
 import {Giving, givensForLines} from './givens.js';
-import {Judge, SpentError} from './judge.js';
+import {Judge} from './judge.js';
 import {Later} from './later.js';
 import {Nearest, mixAll} from './mixing.js';
 import {elsewhere, placesOf} from './places.js';
 import {Search} from './search.js';
+import {Allowance, SpentError} from './work.js';
 
-const MOST_ONES = 24;  // repairs of one cell that are listed
-const MOST_TWOS = 24;  // repairs of two
-const STEPS = 40;      // of a dive
-const ROUNDS = 12;     // of random dives
-const DUSTY = 120;     // open cells from which on a picture is loose
-const MOST_QUESTIONS = 2000;
+const MOST_ONES = 24;     // repairs of one cell that are listed
+const MOST_TWOS = 24;     // repairs of two
+const STEPS = 40;         // of a dive
+const ROUNDS = 12;        // of random dives
+const DUSTY = 120;        // open cells from which on a picture is loose
 const MOST_NEAR = 8;      // cells of what is told as nearer
 const MOST_MIXED = 9;     // changes that a mixture stays below
-const FOR_PLACES = 0.15;  // of the time, for repairs of one place each
-const PLACE = 150;        // milliseconds for one place
+const FOR_PLACES = 0.15;  // of the work, for repairs of one place each
+const PLACE = 0.15;       // seconds of work for one place
 const MOST_TOGETHER = 4;  // repairs of all places that are put together of theirs
-
-/** The end of a search: by the clock, or by the number of questions. */
-class Limit {
-  constructor({seconds, questions = MOST_QUESTIONS, now = () => performance.now()}) {
-    this.questions = questions;
-    this.now = now;
-    this.from = now();
-    this.seconds = seconds;
-  }
-
-  /** Milliseconds so far. */
-  get spent() {
-    return this.now() - this.from;
-  }
-
-  share(part) {
-    return this.spent < part * this.seconds * 1000;
-  }
-
-  check(asked) {
-    if (asked >= this.questions || this.spent >= this.seconds * 1000) throw new SpentError();
-  }
-}
 
 // A descent: by the engine's second pictures, or where many cells are open by line logic alone.
 async function descend(search, isDusty, options) {
   await (isDusty ? climb : dive)(search, {steps: STEPS, ...options});
-  await search.improve(30);
+  await search.improve(0.03);
 }
 
 async function forOneSolution(search, limit) {
   const draw = chances(11);
   await search.all(1, Infinity, MOST_ONES);
   if (search.isDone) return;
-  await search.all(2, 450, MOST_TWOS);
+  await search.all(2, 0.45, MOST_TWOS);
   if (search.isDone) return;
   const isDusty = search.openAtFirst > DUSTY;
   await descend(search, isDusty, {draw});
   if (search.isDone) return;
-  if (search.proved < 2) await search.all(2, 1000, MOST_TWOS);
+  if (search.proved < 2) await search.all(2, 1, MOST_TWOS);
   if (search.isDone) return;
-  await search.all(3, 300);
+  await search.all(3, 0.3);
   if (search.isDone) return;
   await descend(search, !isDusty, {draw});
-  await search.improve(50, 50);
-  for (let round = 0; round < ROUNDS && !search.isDone && limit.share(0.6); round++) {
+  await search.improve(0.05, 0.05);
+  for (let round = 0; round < ROUNDS && !search.isDone && limit.isWithin(0.6); round++) {
     await descend(search, round % 2 === 1, {draw, top: 20 + 5 * (round % 4), noise: 0.1});
-    await search.improve(30, 50);
+    await search.improve(0.03, 0.05);
   }
-  if (search.proved < 3) await search.all(3, 300 * limit.seconds);
-  await search.improve(500, 500, Infinity);
+  if (search.proved < 3) await search.all(3, 0.3 * limit.seconds);
+  await search.improve(0.5, 0.5, Infinity);
   for (let count = search.proved + 1; count <= 7 && !search.isDone; count++)
     await search.all(count, Infinity);
 }
 
 async function forLines(search, limit) {
   const draw = chances(11);
-  await search.all(1, 1000, MOST_ONES);
+  await search.all(1, 1, MOST_ONES);
   if (search.isDone) return;
-  await search.all(2, 300, MOST_TWOS);
+  await search.all(2, 0.3, MOST_TWOS);
   if (search.isDone) return;
-  for (let round = 0; round < ROUNDS && !search.isDone && limit.share(0.6); round++) {
+  for (let round = 0; round < ROUNDS && !search.isDone && limit.isWithin(0.6); round++) {
     await climb(search, {width: round % 3 === 2 ? 3 : 1, steps: STEPS, draw});
-    await search.improve(50, 50);
+    await search.improve(0.05, 0.05);
   }
-  if (search.proved < 2) await search.all(2, 1000, MOST_TWOS);
-  await search.improve(300, 300, Infinity);
+  if (search.proved < 2) await search.all(2, 1, MOST_TWOS);
+  await search.improve(0.3, 0.3, Infinity);
   for (let count = search.proved + 1; count <= 4 && !search.isDone; count++)
     await search.all(count, Infinity, 4);
 }
@@ -119,12 +97,12 @@ function proposalOf(board, codes, goal, {open}) {
 // together are repairs of the whole.
 async function inPlaces(search, limit, goal, told) {
   const {board, judge: {asker}} = search;
-  const places = placesOf(board, () => limit.share(FOR_PLACES / 3));
+  const places = placesOf(board, () => limit.isWithin(FOR_PLACES / 3));
   told?.(places);
   if (places.length < 2 || board.mirror) return;
   const repaints = places.map(() => []);
   const others = elsewhere(places);
-  for (let at = 0; at < places.length && limit.share(FOR_PLACES); at++) {
+  for (let at = 0; at < places.length && limit.isWithin(FOR_PLACES); at++) {
     const found = (candidate, finding) => {
       if (!candidate.codes.length) return;
       repaints[at].push([...candidate.moves]);
@@ -155,7 +133,7 @@ function togethers(repaints) {
   ).filter((moves) => moves.length > 0);
 }
 
-// Runs a search until it is through or its bounds are spent; answers whether it came through. The
+// Runs a search until it is through or its allowance is spent; answers whether it came through. The
 // session is then as before.
 async function bounded(asker, work) {
   const isThrough = await work().then(() => true, (error) => {
@@ -167,16 +145,15 @@ async function bounded(asker, work) {
 }
 
 /**
- * Looks for repairs until the time is up, the questions are spent or nothing smaller is left.
- * Answers `{ best, proved, questions, isThrough, near }`: how many changes the smallest has (or
- * null), up to how many were tried in vain, and what `mix` may begin with. `placed` hears the
- * places where line solving stalls, and then what mends one of them: a proposal with the number of
- * its `place`.
+ * Looks for repairs until the work is done or nothing smaller is left. Answers `{ best, proved,
+ * isThrough, near }`: how many changes the smallest has (or null), up to how many were tried in
+ * vain, and what `mix` may begin with. `placed` hears the places where line solving stalls, and
+ * then what mends one of them: a proposal with the number of its `place`.
  */
 export async function repair(
-    {board, goal, say, seconds, ...bounds}, {found = null, nearer = null, placed = null} = {}
+    {board, goal, say, seconds}, {found = null, nearer = null, placed = null} = {}
 ) {
-  const limit = new Limit({seconds, ...bounds});
+  const limit = new Allowance(board.work, seconds);
   const asker = new Asker(board, say);
   const near = new Nearest();
   let nearest = Infinity;
@@ -202,23 +179,15 @@ export async function repair(
     await inPlaces(search, limit, goal, placed);
     await (goal === 'lines' ? forLines : forOneSolution)(search, limit);
   });
-  return {
-    best: search.best ? search.size : null,
-    proved: search.proved,
-    questions: asker.questions,
-    isThrough,
-    near: near.all
-  };
+  return {best: search.best ? search.size : null, proved: search.proved, isThrough, near: near.all};
 }
 
 /**
  * Looks for few changes that repaint some cells and give others, beginning with `near` as `repair`
- * answers it: fewer than `bound` together, and fewer each time. Answers how many questions it took.
+ * answers it: fewer than `bound` together, and fewer each time.
  */
-export async function mix(
-    {board, goal, near, bound, say, seconds, ...bounds}, {found = null} = {}
-) {
-  const limit = new Limit({seconds, ...bounds});
+export async function mix({board, goal, near, bound, say, seconds}, {found = null} = {}) {
+  const limit = new Allowance(board.work, seconds);
   const asker = new Asker(board, say);
   await bounded(
       asker,
@@ -227,15 +196,14 @@ export async function mix(
           (one) => found?.(one)
       )
   );
-  return {questions: asker.questions};
 }
 
 /**
- * Looks for few cells to be given. Answers `{ given, isLeast, questions }`: the fewest found or
- * null, and whether fewer cannot do.
+ * Looks for few cells to be given. Answers `{ given, isLeast }`: the fewest found or null, and
+ * whether fewer cannot do.
  */
-export async function give({board, goal, say, seconds, ...bounds}, {found = null} = {}) {
-  const limit = new Limit({seconds, ...bounds});
+export async function give({board, goal, say, seconds}, {found = null} = {}) {
+  const limit = new Allowance(board.work, seconds);
   const asker = new Asker(board, say);
   let last = {given: null, isLeast: false};
   const hooks = {
@@ -250,7 +218,7 @@ export async function give({board, goal, say, seconds, ...bounds}, {found = null
           (goal === 'lines' ? givensForLines(board, asker, limit, hooks) :
                               new Giving(board, asker, limit, hooks).run())
   );
-  return {...last, questions: asker.questions};
+  return last;
 }
 
 // Repaints, as lists of moves, after which line logic solves a board's picture.
@@ -268,30 +236,27 @@ async function solvable(board, asker, limit) {
  * Looks for few cells to repaint, or one to give, until line logic solves the puzzle and `word`
  * says how hard that is. `grade(cells, givens)` answers for the engine: `{ open, word, rounds, wait
  * }`, with a word where no cell is open; and `path()` the places of the cells that fall in the
- * session's picture, in that order. Answers `{ isThere, isThrough, questions }`: whether the
- * picture has the word as it is, and whether the search came through.
+ * session's picture, in that order. Answers `{ isThere, isThrough }`: whether the picture has
+ * the word as it is, and whether the search came through.
  */
-export async function aim(
-    {board, word, say, seconds, grade, path, ...bounds}, {found = null} = {}
-) {
-  const limit = new Limit({seconds, ...bounds});
+export async function aim({board, word, say, seconds, grade, path}, {found = null} = {}) {
+  const limit = new Allowance(board.work, seconds);
   const asker = new Asker(board, say);
   const now = await grade(board.cells, board.givens);
-  if (now.word === word) return {isThere: true, isThrough: true, questions: 0};
+  if (now.word === word) return {isThere: true, isThrough: true};
   const told = (one) => found?.(
       one.given ? {goal: word, given: one.given, isLeast: true} :
                   proposalOf(board, one.codes, word, {open: 0})
   );
   const goal = wordGoal(word, grade);
-  const aiming = new Aiming({board, goal, asker, limit, found: told});
+  const aiming = new Aiming({board, goal, limit, found: told});
   const isThrough = await bounded(asker, async () => {
     await aiming.give(path);
-    const begun = now.open > 0 ?
-        await solvable(board, asker, new Limit({seconds: seconds / 2, ...bounds})) :
-        [];
+    const begun =
+        now.open > 0 ? await solvable(board, asker, new Allowance(board.work, seconds / 2)) : [];
     await aiming.repaint(begun);
   });
-  return {isThere: false, isThrough, questions: asker.questions};
+  return {isThere: false, isThrough};
 }
 
 /**
@@ -301,15 +266,15 @@ export async function aim(
  * proposal has its own. Answers whether the search came through.
  */
 export async function delay(
-    {board, places, say, seconds, path, ...bounds}, {begun = null, found = null} = {}
+    {board, places, say, seconds, path}, {begun = null, found = null} = {}
 ) {
-  const limit = new Limit({seconds, ...bounds});
+  const limit = new Allowance(board.work, seconds);
   const asker = new Asker(board, say);
   const goal = new Later({places, givens: board.givens, path});
   goal.share = (await goal.ask(board.cells)).share;
   begun?.(goal.share);
   const told = (one) =>
       found?.({...proposalOf(board, one.codes, 'later', one.figures), share: one.figures.share});
-  const aiming = new Aiming({board, goal, asker, limit, found: told});
+  const aiming = new Aiming({board, goal, limit, found: told});
   return {isThrough: await bounded(asker, () => aiming.repaint([]))};
 }

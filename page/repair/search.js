@@ -8,7 +8,6 @@ import {Candidate} from './board.js';
 import {Pool} from './witness.js';
 
 const KNOWN = 24;  // living witnesses looked at in an exact search
-const LOOKS = 16;  // candidates for each look at the clock
 
 /**
  * One search. `hooks.found(candidate, finding)` hears each repair, `hooks.tried(finding,
@@ -19,6 +18,7 @@ export class Search {
     this.board = board;
     this.judge = judge;
     this.limit = limit;
+    this.work = board.work;
     this.hooks = hooks;
     this.candidate = new Candidate(board);
     this.pool = new Pool();
@@ -32,7 +32,6 @@ export class Search {
     this.visited = new Set();
     this.openAtFirst = null;  // cells of the board's picture
     this.last = null;         // the last finding
-    this.looks = 0;
   }
 
   get size() {
@@ -44,13 +43,8 @@ export class Search {
     return this.size <= this.proved + 1;
   }
 
-  /** Ends the search where time or questions are spent. */
-  check() {
-    this.limit.check(this.judge.asker.questions);
-  }
-
   async evaluate() {
-    this.check();
+    this.limit.step();
     const finding = await this.judge.judge(this.candidate);
     this.openAtFirst ??= finding.open;
     this.last = finding;
@@ -69,7 +63,7 @@ export class Search {
 
   /**
    * Searches all sets of at most so many further moves. Answers whether it ends: enough were
-   * found, or its time is up.
+   * found, or it has done what it may.
    */
   async exact(left) {
     const {candidate} = this;
@@ -86,7 +80,7 @@ export class Search {
     living = [...living].sort((one, other) => one.lineCount - other.lineCount);
     if (Math.ceil(countApart(living) / 2) > left) return false;
     for (const move of left === 1 ? this.#lastMoves(living) : this.#nextMoves(living, left)) {
-      if (this.#isPastItsTime()) return true;
+      if (this.#mayNoMore()) return true;
       candidate.make(move);
       const isNew = this.#visit(left - 1);
       const ends = isNew && (left > 1 || candidate.isNeat()) && (await this.exact(left - 1));
@@ -102,13 +96,11 @@ export class Search {
     return this.proposed.size >= this.wanted;
   }
 
-  // The clock is looked at now and then alone: it is slow beside a comparison of clues.
-  #isPastItsTime() {
-    if (this.isCut || ++this.looks % LOOKS !== 0) return this.isCut;
-    this.check();
-    if (this.limit.now() <= this.until) return false;
-    this.isCut = true;
-    return true;
+  // Whether an exact search has done what it may.
+  #mayNoMore() {
+    this.limit.step();
+    this.isCut ||= this.work.seconds > this.until;
+    return this.isCut;
   }
 
   #keyFor(left) {
@@ -149,7 +141,7 @@ export class Search {
     const {candidate} = this;
     const ranked = [];
     for (const move of this.#movesAt(living[0])) {
-      if (this.#isPastItsTime()) return [];
+      if (this.#mayNoMore()) return [];
       candidate.make(move);
       if (!this.visited.has(this.#keyFor(left - 1))) {
         const alive = countLiving(living, candidate);
@@ -161,14 +153,14 @@ export class Search {
   }
 
   /**
-   * Searches from these moves on, within some milliseconds, for so many repairs. Answers whether
+   * Searches from these moves on, within some seconds of work, for so many repairs. Answers whether
    * one was found.
    */
-  async within(moves, left, milliseconds, wanted = 1) {
+  async within(moves, left, seconds, wanted = 1) {
     const before = this.proposed.size;
     this.candidate.become(moves);
     this.visited = new Set();
-    this.until = this.limit.now() + milliseconds;
+    this.until = this.work.seconds + seconds;
     this.isCut = false;
     this.wanted = before + wanted;
     await this.exact(left);
@@ -177,12 +169,12 @@ export class Search {
   }
 
   /**
-   * Searches all sets of `count` moves, within some milliseconds. Where none is found and none was
-   * left out, that is known then.
+   * Searches all sets of `count` moves, within some seconds of work. Where none is found and none
+   * was left out, that is known then.
    */
-  async all(count, milliseconds, wanted = 1) {
+  async all(count, seconds, wanted = 1) {
     this.isSure = true;
-    const isFound = await this.within([], count, milliseconds, wanted);
+    const isFound = await this.within([], count, seconds, wanted);
     if (!isFound && !this.isCut && this.isSure && this.proved === count - 1 && this.size > count)
       this.proved = count;
     return isFound;
@@ -206,22 +198,22 @@ export class Search {
   }
 
   // Puts one move less in the place of `out` of the best repair's.
-  async #swap(out, milliseconds, until) {
+  async #swap(out, seconds, until) {
     const {best} = this;
-    if (!best || best.length <= out || milliseconds === 0) return false;
+    if (!best || best.length <= out || seconds === 0) return false;
     for (const left of combinations(best, best.length - out)) {
-      if (this.limit.now() > until) return false;
-      if (await this.within(left, out - 1, milliseconds)) return true;
+      if (this.work.seconds > until) return false;
+      if (await this.within(left, out - 1, seconds)) return true;
     }
     return false;
   }
 
   /**
    * Swaps two moves for one, and three for two, while that succeeds: `two` and `three`
-   * milliseconds for each try, `all` together.
+   * seconds of work for each try, `all` together.
    */
-  async improve(two, three = 0, all = 1000) {
-    const until = this.limit.now() + all;
+  async improve(two, three = 0, all = 1) {
+    const until = this.work.seconds + all;
     while (this.best && !this.isDone) {
       if (!(await this.#swap(2, two, until)) && !(await this.#swap(3, three, until))) return;
     }

@@ -92,6 +92,7 @@ class Witness {
 
   /** Whether it refutes the candidate, too. */
   lives(candidate) {
+    this.board.work.witness();
     const count = this.#findChanged(candidate);
     if (count === 0) return true;
     return this.isMask ? this.#holds(candidate, count) : this.#differs(candidate, count);
@@ -122,7 +123,9 @@ class Witness {
       for (let cell = 0; cell < size; cell++) masks[cell] = 1 << line[cell];
       const noted = this.inLine.get(changed[one]);
       for (let place = 0; place < noted.length; place += 2) masks[noted[place]] |= noted[place + 1];
-      narrow(masks, size, clueOf(line.subarray(0, size)), narrowed);
+      const clue = clueOf(line.subarray(0, size));
+      this.board.work.line(size, clue);
+      narrow(masks, size, clue, narrowed);
       for (let cell = 0; cell < size; cell++)
         if (narrowed[cell] !== masks[cell]) return false;
     }

@@ -153,7 +153,7 @@ function showCards() {
   );
 }
 
-// How much the library takes, and how much more the browser allows.
+// How much the library takes, and how much more the browser allows; nothing where it is empty.
 async function showUsage(keeper) {
   if (!keeper.shelf.lasts) {
     view.section.hidden = false;
@@ -161,6 +161,7 @@ async function showUsage(keeper) {
         phrase('library.yourWorkTabAlone', {why: phrase('library.browserKeepsNothingPage')});
     return;
   }
+  if (!view.cards.length) return;
   const own = view.cards.reduce((sum, card) => sum + card.size, 0);
   /** @type {any} */
   const estimate = await Promise.resolve(navigator.storage?.estimate?.()).catch(() => null);

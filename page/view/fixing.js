@@ -33,16 +33,16 @@ const AS_LATER = [LATER, phrase('view.selectionKnownLater')];
 const MOST_SHOWN = 24;
 const MOST_OF_ALL = 4;  // proposals for all places together, where each is mended by itself
 const MOST_MIXED = 2;
-const QUICK = 0.2;     // seconds for given cells before repaints are looked for; where that is too
-                       // short there is more time behind them
+const QUICK = 0.2;     // seconds of work for given cells before repaints are looked for; where that
+                       // is too little there is more behind them
 const FEW = 8;         // cells: what needs more is too loose
-const FALLBACK = 1.5;  // seconds for one solution, where no guessing is not to be had
-const MIRRORED = 0.7;  // seconds for repairs that keep both halves of a picture alike
-const REST = 400;      // milliseconds between a stroke and the search for what mends it, while
-                       // proposals are shown
+const FALLBACK = 1.5;  // seconds of work for one solution, where no guessing is not to be had
+const MIRRORED = 0.7;  // seconds of work for repairs that keep both halves of a picture alike
+const MOST_WORK = 120;  // seconds: a search remembers what it has tried
+const REST = 400;       // milliseconds between a stroke and the search for what mends it, while
+                        // proposals are shown
 const NO_PLACES = [];
 const MOST_SECONDS = 2;  // for the grade of a picture that is aimed for
-const SPARE = 5;         // seconds that a search in the worker has left to end by itself
 const howToSee = () =>
     (matchMedia('(hover: hover)').matches ? phrase('view.pointToSee') : phrase('view.holdToSee'));
 const LONGER = phrase('view.longerSearchTimeMay');
@@ -207,7 +207,11 @@ const fixSays = (text) => {
   if ($('fix-said')) $('fix-said').textContent = text;
 };
 
-// Runs a call of the worker on the open picture; null where another picture is shown by then.
+// Seconds of work, as many as the user lets a search take.
+const workChosen = () => Math.min(secondsChosen(), MOST_WORK);
+
+// Runs a call of the worker on the open picture; null where another picture is shown by then. It
+// ends when its work is done, however long a busy machine takes for that.
 async function searched(name, work) {
   setDown();
   await bench.rest();
@@ -215,7 +219,7 @@ async function searched(name, work) {
   fixSays('');
   verdictView.ended = null;
   const {version} = searches;
-  const done = await searches.job(name, secondsChosen() + SPARE, (copy) => work(copy, state));
+  const done = await searches.job(name, Infinity, (copy) => work(copy, state));
   return version === searches.version && bench.state ? {done, state} : null;
 }
 
@@ -227,7 +231,7 @@ async function giveCells() {
       phrase('view.lookingCellsGive'),
       (copy, state) => copy.work(
           'give',
-          {board: boardOf(state), goal, seconds: secondsChosen()},
+          {board: boardOf(state), goal, seconds: workChosen()},
           ({found}) => {
             copy.found = found;
             copy.note(phrase('view.cellsSuffice', {cells: found.given.length}));
@@ -306,20 +310,20 @@ class RepairSearch {
 
   /** Proposals that have a grade. */
   ofGrade() {
-    return this.ask('aim', {word: this.goal, seconds: Math.max(1, secondsChosen() - 1)});
+    return this.ask('aim', {word: this.goal, seconds: Math.max(1, workChosen() - 1)});
   }
 
   /** Proposals by which half of a part is known later. */
   ofPart() {
-    return this.ask('delay', {places: [...fixing.part], seconds: Math.max(1, secondsChosen() - 1)});
+    return this.ask('delay', {places: [...fixing.part], seconds: Math.max(1, workChosen() - 1)});
   }
 
   /** Cells to give, repaints, and both together. */
   async all() {
-    const part = Math.min(2, secondsChosen() / 4);  // of the time, for the givens, and for mixtures
+    const part = Math.min(2, workChosen() / 4);  // of the work, for the givens, and for mixtures
     const isLeast = await this.give(QUICK);
     await this.mirrored();
-    const seconds = Math.max(1, secondsChosen() - 2);
+    const seconds = Math.max(1, workChosen() - 2);
     this.copy.found = await this.ask('repair', {goal: this.goal, seconds});
     if (this.goal === 'lines' && this.state.verdict.word !== 'unique' && !this.hasSmall())
       await this.ask('repair', {goal: 'unique', seconds: FALLBACK}, this.addFound);
@@ -349,7 +353,7 @@ class RepairSearch {
     if (found) add(this.state, found);
   }
 
-  // Lists the fewest cells to give that are found in some seconds, and says whether no fewer do.
+  // Lists the fewest cells to give that are found, and says whether no fewer do.
   async give(seconds) {
     const given = await this.ask('give', {goal: this.goal, seconds}, () => {});
     if (given.given?.length) add(this.state, given);

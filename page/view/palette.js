@@ -371,11 +371,15 @@ function fillEditor() {
           palette.locked,
           capital(phrase('view.locked'))
       ),
-      make('datalist', {id: 'colour-words'}, ...COLOUR_NAMES.map((name) => make('option', {
-                                                                   value: name
-                                                                 }))),
       make('div', {class: 'group', id: 'colour-more'})
   );
+  palette.editor.addEventListener('beforetoggle', addNames, {once: true});
+}
+
+// The names that are offered: many, so they come when the editor is opened.
+function addNames() {
+  const names = COLOUR_NAMES.map((name) => make('option', {value: name}));
+  palette.editor.append(make('datalist', {id: 'colour-words'}, ...names));
 }
 
 function addColourActions() {

@@ -143,8 +143,8 @@ function paintedText({state, cells}) {
 const givenText = ({state, given, isLeast}) => `${phrase('view.cells', {cells: given.length})}${
     isLeast ? phrase('view.fewest') : ''}: ${namedOf(state, given)}`;
 
-/** All that is said of a proposal. */
-export function textOf(one) {
+// All that is said of a proposal.
+function textOf(one) {
   if (!one.cells) return phrase('view.give', {given: givenText(one)});
   return one.given ? `${phrase('view.repaint')}${paintedText(one)}${
                          phrase('view.alsoGive', {given: givenText(one)})}` :

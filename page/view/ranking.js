@@ -5,8 +5,8 @@ import {eightBits, oklabOf} from '../document/colours.js';
 import {painted} from '../document/cover.js';
 import {LETTERS} from '../document/limits.js';
 
-/** Whether both halves of a picture are alike about an axis: 'x', left and right, or 'y'. */
-export const isMirrored = (picture, axis) =>
+// Whether both halves of a picture are alike about an axis: 'x', left and right, or 'y'.
+const isMirrored = (picture, axis) =>
     (axis === 'x' ? picture.every((row) => row === [...row].reverse().join('')) :
                     picture.join() === [...picture].reverse().join());
 

@@ -273,10 +273,10 @@ function showTask(task) {
     return;
   }
   write($('task-name'), task.name);
-  const seconds = Math.min(task.seconds, secondsChosen());  // what is beyond is there to end in
+  const {seconds} = task;
   const of = Number.isFinite(seconds) ? phrase('view.of', {seconds}) : '';
   $('task-time').textContent =
-      `${Math.floor(Math.min(task.elapsed, seconds))}${of} s${task.note ? ` · ${task.note}` : ''}`;
+      `${Math.floor(task.elapsed)}${of} s${task.note ? ` · ${task.note}` : ''}`;
   if (task.elapsed < 0.01) showVerdict(bench.state);
 }
 

@@ -15,11 +15,6 @@ import {waits} from '../waits.mjs';
 const module = hasModule ? await engine() : null;
 const skip = needsModule.skip || waits('0.8.0');
 const [ROWS, COLUMNS] = [6, 8];
-const BOUNDS = {
-  seconds: 60,
-  questions: 1e6,
-  now: () => 0
-};  // the clock stands still, so no machine is too slow
 
 function random(seed) {
   let state = seed;
@@ -70,7 +65,7 @@ async function aimed(cells, word, more = {}, others = {}) {
   const say = (lines) => bench.say(lines.map((line) => `${line}\n`).join(''));
   say(base.lines);
   const path = () => fallsOf(say, board);
-  const result = await aim({board, word, say, path, grade: said, ...BOUNDS, ...others}, {
+  const result = await aim({board, word, say, path, grade: said, seconds: Infinity, ...others}, {
     found: (one) => (one.given ? givens.push(one.given) : repaints.push(one.cells))
   });
   bench.close();
@@ -177,9 +172,7 @@ test(
         const cells = cellsBy(next);
         const own = wordOf(cells);
         if (own !== null) {
-          assert.deepEqual(
-              (await aimed(cells, own)).result, {isThere: true, isThrough: true, questions: 0}
-          );
+          assert.deepEqual((await aimed(cells, own)).result, {isThere: true, isThrough: true});
           continue;
         }
         turn++;
@@ -270,16 +263,12 @@ function shareIn(cells, places) {
   return -1;
 }
 
-// A clock that goes on by a millisecond for each candidate bounds the search.
-const MOST_CANDIDATES = 300;
 async function delayed(cells, places, more = {}) {
   const board = new Board({rows: ROWS, columns: COLUMNS, cells, ...more});
   const [found, begun] = [[], []];
-  let clock = 0;
-  const bounds = {seconds: MOST_CANDIDATES / 1000, now: () => clock++};
   const say = () => assert.fail('the session is not asked');
   await delay(
-      {board, places, say, path: pathIn(module, board), ...bounds},
+      {board, places, say, path: pathIn(module, board), seconds: 0.02},
       {begun: (share) => begun.push(share), found: (one) => found.push(one)}
   );
   return {board, found, begun};

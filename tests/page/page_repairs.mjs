@@ -358,7 +358,10 @@ export async function pensSymmetryKept({trial, page}) {
   }
 }
 
-/** Where each repair has more than eight cells, the page advises what fits the picture. */
+/**
+ * Where each repair has more than eight cells, the page advises what fits the picture. What it
+ * proposes is the same on a slow processor.
+ */
 export async function looseIsSaid({trial, page}) {
   await trial.open(ppmOf(LOOSE, COLOURS), 'loose');
   assert.equal(await trial.judged(), 'ambiguous');
@@ -379,8 +382,11 @@ export async function looseIsSaid({trial, page}) {
       window.isAdjusted = true;
     };
   });
+  await page.send('Emulation.setCPUThrottlingRate', {rate: 6});
   await page.click('#fix-paint');
   await fixSaid(page, 'found');
+  assert.deepEqual(await proposals(page), texts, 'as many, in the same order');
+  await page.send('Emulation.setCPUThrottlingRate', {rate: 1});
   assert.equal(await isOffered(), true);
   await page.click('#fix-adjust');
   assert.equal(await page.run(() => window.isAdjusted), true);

@@ -119,11 +119,6 @@ function sessionOf(all, cells) {
 
 const small = new AllPictures(4, 4, 2);
 const three = new AllPictures(3, 3, 3);
-const BOUNDS = {
-  seconds: 60,
-  questions: 100000,
-  now: () => 0
-};  // the clock stands still, so no machine is too slow
 
 function boardOf(all, cells, more = {}) {
   return new Board({rows: all.rows, columns: all.columns, cells, ...more});
@@ -132,9 +127,9 @@ function boardOf(all, cells, more = {}) {
 async function repairsOf(all, cells, goal, more = {}) {
   const found = [];
   const board = boardOf(all, cells, more);
-  const result = await repair(
-      {board, goal, say: sessionOf(all, cells), ...BOUNDS}, {found: (one) => found.push(one.cells)}
-  );
+  const result = await repair({board, goal, say: sessionOf(all, cells), seconds: Infinity}, {
+    found: (one) => found.push(one.cells)
+  });
   return {found, result, board};
 }
 
@@ -222,9 +217,10 @@ test(
       const painsOf = async (mirror) => {
         const pains = new Map();
         const board = boardOf(small, cellsOf(rows), {rule: false, mirror});
-        await repair({board, goal: 'unique', say: sessionOf(small, cellsOf(rows)), ...BOUNDS}, {
-          found: ({cells, pain}) => pains.set(JSON.stringify(cells), pain)
-        });
+        await repair(
+            {board, goal: 'unique', say: sessionOf(small, cellsOf(rows)), seconds: Infinity},
+            {found: ({cells, pain}) => pains.set(JSON.stringify(cells), pain)}
+        );
         return pains;
       };
       const [together, apart] = [await painsOf('x'), await painsOf(null)];
@@ -257,8 +253,9 @@ test('the fewest cells to be given are brute force\'s', async () => {
         (goal === 'lines' ? small.isByLines(cells, givens) : small.isUnique(cells, givens));
     for (let turn = 0; turn < 25; turn++) {
       const cells = someCells(small, next, (one) => !isGoal(one, []));
-      const {given, isLeast} =
-          await give({board: boardOf(small, cells), goal, say: sessionOf(small, cells), ...BOUNDS});
+      const {given, isLeast} = await give(
+          {board: boardOf(small, cells), goal, say: sessionOf(small, cells), seconds: Infinity}
+      );
       assert.ok(isGoal(cells, given));
       const fewer = sets(16, given.length - 1).some((some) => isGoal(cells, some));
       if (isLeast) assert.equal(fewer, false, rowsOf(small, cells).join('/'));
@@ -293,7 +290,7 @@ test(
                   near: [one],
                   bound: 9,
                   say: session,
-                  ...BOUNDS
+                  seconds: Infinity
                 },
                 {found: (mixed) => found.push(mixed)}
             );
@@ -325,7 +322,7 @@ test('each mixture has fewer changes than the one before, and than the bound', a
           near: result.near,
           bound: most,
           say: sessionOf(small, cells),
-          ...BOUNDS
+          seconds: Infinity
         },
         {
           found({cells: changes, given}) {
@@ -391,21 +388,29 @@ test('the damage rule: the colour of a neighbour, and no new lone pixel', () => 
   );
 });
 
-test('a search ends with its questions, and what was found stays', async () => {
+test('a search ends with its allowance, however slowly the session answers', async () => {
   const cells = cellsOf(['a.a.', '.a.a', 'a.a.', '.a.a']);
-  const found = [];
-  const result = await repair(
-      {
-        board: boardOf(small, cells),
-        goal: 'unique',
-        say: sessionOf(small, cells),
-        ...BOUNDS,
-        questions: 3
-      },
-      {found: (one) => found.push(one)}
-  );
-  assert.equal(result.isThrough, false);
-  assert.ok(result.questions <= 3);
+  const foundIn = async (answer) => {
+    const found = [];
+    const session = sessionOf(small, cells);
+    const {isThrough} = await repair(
+        {
+          board: boardOf(small, cells),
+          goal: 'unique',
+          say: (lines) => answer(session(lines)),
+          seconds: 0.0003
+        },
+        {found: (one) => found.push(one.cells)}
+    );
+    assert.equal(isThrough, false);
+    return found;
+  };
+  const atOnce = await foundIn((text) => text);
+  assert.ok(atOnce.length > 0, 'what was found stays');
+  const later = (text) => new Promise((go) => {
+    setTimeout(() => go(text), 5);
+  });
+  assert.deepEqual(await foundIn(later), atOnce);
 });
 
 test('what is nearer to the goal than the picture is told, each time nearer', async () => {
@@ -417,7 +422,13 @@ test('what is nearer to the goal than the picture is told, each time nearer', as
     ).map((other) => other.filter((colour, at) => colour !== one[at]).length));
     let far = farOf(cells);
     await repair(
-        {board: boardOf(small, cells), goal: 'unique', say: sessionOf(small, cells), ...BOUNDS}, {
+        {
+          board: boardOf(small, cells),
+          goal: 'unique',
+          say: sessionOf(small, cells),
+          seconds: Infinity
+        },
+        {
           nearer({cells: changes, differing}) {
             assert.ok(changes.length > 0 && differing < far);
             assert.equal(
@@ -435,7 +446,8 @@ test('what is nearer to the goal than the picture is told, each time nearer', as
 test('a session that refuses a line ends the search with an error', async () => {
   const board = boardOf(small, cellsOf(['a.a.', '.a.a', 'a.a.', '.a.a']));
   await assert.rejects(
-      repair({board, goal: 'unique', say: () => 'refused: Memory\n', ...BOUNDS}), /refused: Memory/
+      repair({board, goal: 'unique', say: () => 'refused: Memory\n', seconds: Infinity}),
+      /refused: Memory/
   );
 });
 
@@ -515,8 +527,7 @@ test('each place is mended by itself, and the best of all together mend the whol
         board: new Board({rows: 6, columns: 6, cells}),
         goal: 'lines',
         say: sessionOfCorners(cells),
-        ...BOUNDS,
-        seconds: 1
+        seconds: Infinity
       },
       {
         found: (one) => wholes.push(one),
