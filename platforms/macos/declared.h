@@ -19,8 +19,6 @@ int open(const char *path, int flags, ...);
 
 // <inttypes.h>
 #define PRIu32 "u"
-#define SCNu32 "u"
-#define SCNu64 "llu"
 
 // <signal.h>
 void (*signal(int number, void (*then)(int)))(int);
@@ -30,7 +28,6 @@ void (*signal(int number, void (*then)(int)))(int);
 // <stdio.h>
 int sprintf(char *to, const char *form, ...);
 int snprintf(char *to, size_t room, const char *form, ...);
-int sscanf(const char *text, const char *form, ...);
 
 // <stdlib.h>
 void *malloc(size_t size);

@@ -145,7 +145,6 @@ impl Machine {
         ensures same_longest { E.longest engine.new ≡ E.longest engine.old }
         ensures work { E.calls engine.new ≤ E.calls engine.old + 1 }
     {
-        let _ = engine.calls();
         let picture = claim.picture;
         let Some(line) = line_at(picture, at) else {
             return Err(CertFault::Place(number));

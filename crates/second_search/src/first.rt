@@ -33,7 +33,6 @@ pub(crate) fn find_in_turns<E: LineEngine>(
     ensures calls { E.calls engine.old ≤ E.calls engine.new }
     ensures same_longest { E.longest engine.new ≡ E.longest engine.old }
 {
-    let _ = engine.calls();
     let ladder = Ladder {
         first_bound: turns.evaluations,
         judging: 0,

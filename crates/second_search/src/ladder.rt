@@ -51,7 +51,6 @@ pub fn climb<E: LineEngine>(
     ensures calls { E.calls engine.old ≤ E.calls engine.new }
     ensures same_longest { E.longest engine.new ≡ E.longest engine.old }
 {
-    let _ = engine.calls();
     let mut bound = ladder.first_bound;
     let mut spent = ladder.judging;
     // A judgement climbs from the bound of a part. Where it took more than four times the first bound, this climb begins there too,
@@ -95,7 +94,6 @@ pub fn take_turn<E: LineEngine>(
         ≤ E.calls engine.old + 2 * most_in_tree scene.now.facts.now bound }
     ensures same_longest { E.longest engine.new ≡ E.longest engine.old }
 {
-    let _ = engine.calls();
     for choice in [Choice::Look, Choice::First].iter() {
         if *spent > bound {
             *spent -= bound;

@@ -55,7 +55,6 @@ pub fn find_near_other<E: LineEngine>(
     ensures calls { E.calls engine.old ≤ E.calls engine.new }
     ensures same_longest { E.longest engine.new ≡ E.longest engine.old }
 {
-    let _ = engine.calls();
     let Some(facts) = closed(engine, scene)? else {
         return Ok(None);
     };
@@ -107,7 +106,7 @@ pub(crate) fn find_near<E: LineEngine>(
     ensures calls { E.calls engine.old ≤ E.calls engine.new }
     ensures same_longest { E.longest engine.new ≡ E.longest engine.old }
 {
-    let _ = (engine.calls(), scene.facts.height());
+    let _ = scene.facts.height();
     let home = facts_on(scene, &CellSet::empty())?;
     let lines = lines_through(cells, scene.facts);
     let rows = places_along(alloc, &lines, Axis::Across)?;
@@ -146,7 +145,6 @@ fn find_inside<E: LineEngine>(
     ensures calls { E.calls engine.old ≤ E.calls engine.new }
     ensures same_longest { E.longest engine.new ≡ E.longest engine.old }
 {
-    let _ = engine.calls();
     if window.lines.len() < FEWEST {
         return Ok(None);
     }

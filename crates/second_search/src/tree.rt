@@ -45,7 +45,6 @@ pub(crate) fn write_tree<E: LineEngine>(
         (E.calls engine.new) }
     ensures same_longest { E.longest engine.new ≡ E.longest engine.old }
 {
-    let _ = engine.calls();
     let mut growing = Growing {
         trail: Trail::start(alloc, scene.facts.copy()?),
         lines: no_lines(alloc, keeps),
@@ -107,7 +106,6 @@ impl Growing {
             (E.calls engine.new) }
         ensures same_longest { E.longest engine.new ≡ E.longest engine.old }
     {
-        let _ = engine.calls();
         let mut facts = self.trail.at_hand().copy()?;
         let outcome = close_written(
             engine,

@@ -36,7 +36,6 @@ pub(crate) fn close_written<E: LineEngine>(
     ensures few { E.calls engine.new ≤ max (E.calls engine.old) until }
     ensures same_longest { E.longest engine.new ≡ E.longest engine.old }
 {
-    let _ = engine.calls();
     let mut agenda = InOrder::make();
     agenda.put_all(dirty);
     for _ in 0..MOST_LINES {
@@ -75,7 +74,7 @@ fn take_line<E: LineEngine>(
     ensures called { E.calls engine.new ≡ counted (E.calls engine.old) 1 }
     ensures same_longest { E.longest engine.new ≡ E.longest engine.old }
 {
-    let _ = (facts.height(), engine.calls());
+    let _ = facts.height();
     let mut count = 0;
     let forced = force_crossing(engine, facts, clues.clue(line), line, &mut count);
     match forced.outcome {

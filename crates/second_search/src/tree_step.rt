@@ -63,7 +63,7 @@ pub(crate) fn next_step<E: LineEngine>(
     ensures few { AreFewUntil way.until facts.now (E.calls engine.old) (E.calls engine.new) }
     ensures same_longest { E.longest engine.new ≡ E.longest engine.old }
 {
-    let _ = (facts.height(), engine.calls());
+    let _ = facts.height();
     let node = node_at(scene, facts, way);
     if let Some(picture) = other_here(alloc, scene, &node)? {
         return Ok(TreeStep::Other(picture));
@@ -170,7 +170,6 @@ fn dead_line<E: LineEngine>(
         ≤ E.calls engine.old + (length facts.now + width_of facts.now) }
     ensures same_longest { E.longest engine.new ≡ E.longest engine.old }
 {
-    let _ = engine.calls();
     if let Some(line) = dead_along(engine, clues, facts, Axis::Across)? {
         return Ok(Some(line));
     }
@@ -192,7 +191,6 @@ fn dead_along<E: LineEngine>(
     ensures few { E.calls engine.new ≤ E.calls engine.old + lines_along axis facts.now }
     ensures same_longest { E.longest engine.new ≡ E.longest engine.old }
 {
-    let _ = engine.calls();
     for at in 0..clues.line_count(axis) {
         let line = LineId { axis, at };
         if !some_fits(engine, clues, facts, line)? {

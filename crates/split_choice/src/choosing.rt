@@ -35,7 +35,6 @@ pub fn choose<E: LineEngine>(
     ensures few { E.calls engine.new ≤ max (E.calls engine.old) until }
     ensures same_longest { E.longest engine.new ≡ E.longest engine.old }
 {
-    let _ = engine.calls();
     let open = OpenCells::of(node.facts);
     let Some(region) = smallest_unfilled(node, &open) else {
         return Ok(Chosen::Nothing);
@@ -83,7 +82,6 @@ fn look_ahead<E: LineEngine>(
     ensures few { E.calls engine.new ≤ max (E.calls engine.old) until }
     ensures same_longest { E.longest engine.new ≡ E.longest engine.old }
 {
-    let _ = engine.calls();
     let enough = if node.own { 0 } else { 1 };
     let mut best = None;
     let mut most = 0;

@@ -64,7 +64,6 @@ pub(crate) fn look_at<E: LineEngine>(
     ensures few { E.calls engine.new ≤ max (E.calls engine.old) until }
     ensures same_longest { E.longest engine.new ≡ E.longest engine.old }
 {
-    let _ = engine.calls();
     let mut tally = Tally {
         alive: 0,
         sum: 0,
@@ -123,7 +122,6 @@ fn settle<E: LineEngine>(
     ensures few { E.calls engine.new ≤ max (E.calls engine.old) until }
     ensures same_longest { E.longest engine.new ≡ E.longest engine.old }
 {
-    let _ = engine.calls();
     let mut agenda = InOrder::make();
     let mut settled = Settled {
         touched: cell.lines(),
