@@ -227,7 +227,7 @@ def test_what_is_given_out(library, name):
     listed = passes(['nm', '-D', '--defined-only', '--format=posix', shared]).splitlines()
     node = f'{name.upper()}_0'
     given = {line.split()[0] for line in listed}
-    assert calls and given == {f'{call}@@{node}' for call in calls} | {f'{node}'}
+    assert calls and given == {f'{call}@@{node}' for call in calls} | {node}
     static = passes(['nm', '-g', '--defined-only', '--format=posix', shared.with_suffix('.a')])
     assert {line.split()[0] for line in static.splitlines()[1:]} == calls
 

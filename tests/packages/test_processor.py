@@ -62,9 +62,8 @@ def test_module(module, tmp_path):
     """
     (tmp_path / 'ask.mjs').write_text(asked)
     said = b'this browser or Node.js has no WebAssembly SIMD, which nonobench needs\n'
-    assert without('kvm64', passes(['which', 'node']).strip(), tmp_path / 'ask.mjs') == Ended(
-        0, said, b''
-    )
+    node = passes(['node', '-p', 'process.execPath']).strip()
+    assert without('kvm64', node, tmp_path / 'ask.mjs') == Ended(0, said, b'')
 
 
 @pytest.mark.all
